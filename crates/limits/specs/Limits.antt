@@ -1,0 +1,27 @@
+-- The limits of document 01, "The sheet" and "The cost table".
+-- Assumes nothing.
+use Prim.Native.Nat.{ℕ}
+
+-- the most sites of a sheet
+abbrev pub maxNodes : ℕ
+maxNodes = 1024
+
+-- the most stations of a sheet
+abbrev pub maxTerminals : ℕ
+maxTerminals = 10
+
+-- the most legs of a sheet
+abbrev pub maxArcs : ℕ
+maxArcs = 8192
+
+-- the least price of a leg, in cents
+abbrev pub minWeight : ℕ
+minWeight = 1
+
+-- the greatest price of a leg, in cents
+abbrev pub maxWeight : ℕ
+maxWeight = 1_000_000
+
+-- the cell of a site and a set that no directed subtree serves: "none"
+abbrev pub noCost : ℕ
+noCost = 4_294_967_295
