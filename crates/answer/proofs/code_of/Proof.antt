@@ -1,0 +1,56 @@
+use borrow.Author.Needs.{needs}
+use Rattle.answer.proofs.code_of.Statement.{statement}
+use Rattle.answer.proofs.code_of.Tie as tie
+
+enum-known-refusal : tie.Need-enum-known-refusal
+enum-known-refusal c = search needs
+
+sheet-code-requires : tie.Need-sheet-code-requires
+sheet-code-requires c κs = search needs
+
+enum-known-refusal-2 : tie.Need-enum-known-refusal-2
+enum-known-refusal-2 c = search needs
+
+table-code-requires : tie.Need-table-code-requires
+table-code-requires c κs = search needs
+
+enum-known-refusal-3 : tie.Need-enum-known-refusal-3
+enum-known-refusal-3 c = search needs
+
+search-code-requires : tie.Need-search-code-requires
+search-code-requires c κs = search needs
+
+enum-known-refusal-4 : tie.Need-enum-known-refusal-4
+enum-known-refusal-4 c = search needs
+
+plan-code-requires : tie.Need-plan-code-requires
+plan-code-requires c κs = search needs
+
+returns : tie.Need-returns
+returns c = cc
+
+returns-2 : tie.Need-returns-2
+returns-2 c = cc
+
+returns-3 : tie.Need-returns-3
+returns-3 c = cc
+
+returns-4 : tie.Need-returns-4
+returns-4 c = cc
+
+pub code-of-spec : {M : Type 1} → statement M
+code-of-spec =
+    tie.close
+    (tie.spec
+    enum-known-refusal
+    sheet-code-requires
+    enum-known-refusal-2
+    table-code-requires
+    enum-known-refusal-3
+    search-code-requires
+    enum-known-refusal-4
+    plan-code-requires
+    returns
+    returns-2
+    returns-3
+    returns-4)

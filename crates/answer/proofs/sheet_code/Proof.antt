@@ -1,0 +1,88 @@
+use borrow.Author.Needs.{needs}
+use Rattle.answer.proofs.sheet_code.Statement.{statement}
+use Rattle.answer.proofs.sheet_code.Tie as tie
+
+enum-known-fault : tie.Need-enum-known-fault
+enum-known-fault c = search needs
+
+enum-known-fault-2 : tie.Need-enum-known-fault-2
+enum-known-fault-2 c = search needs
+
+enum-known-fault-3 : tie.Need-enum-known-fault-3
+enum-known-fault-3 c = search needs
+
+enum-known-fault-4 : tie.Need-enum-known-fault-4
+enum-known-fault-4 c = search needs
+
+enum-known-fault-5 : tie.Need-enum-known-fault-5
+enum-known-fault-5 c = search needs
+
+enum-known-fault-6 : tie.Need-enum-known-fault-6
+enum-known-fault-6 c = search needs
+
+enum-known-fault-7 : tie.Need-enum-known-fault-7
+enum-known-fault-7 c = search needs
+
+enum-known-fault-8 : tie.Need-enum-known-fault-8
+enum-known-fault-8 c = search needs
+
+enum-known-fault-9 : tie.Need-enum-known-fault-9
+enum-known-fault-9 c = search needs
+
+enum-known-fault-10 : tie.Need-enum-known-fault-10
+enum-known-fault-10 c = search needs
+
+returns : tie.Need-returns
+returns c = cc
+
+returns-2 : tie.Need-returns-2
+returns-2 c = cc
+
+returns-3 : tie.Need-returns-3
+returns-3 c = cc
+
+returns-4 : tie.Need-returns-4
+returns-4 c = cc
+
+returns-5 : tie.Need-returns-5
+returns-5 c = cc
+
+returns-6 : tie.Need-returns-6
+returns-6 c = cc
+
+returns-7 : tie.Need-returns-7
+returns-7 c = cc
+
+returns-8 : tie.Need-returns-8
+returns-8 c = cc
+
+returns-9 : tie.Need-returns-9
+returns-9 c = cc
+
+returns-10 : tie.Need-returns-10
+returns-10 c = cc
+
+pub sheet-code-spec : {M : Type 1} → statement M
+sheet-code-spec =
+    tie.close
+    (tie.spec
+    enum-known-fault
+    enum-known-fault-2
+    enum-known-fault-3
+    enum-known-fault-4
+    enum-known-fault-5
+    enum-known-fault-6
+    enum-known-fault-7
+    enum-known-fault-8
+    enum-known-fault-9
+    enum-known-fault-10
+    returns
+    returns-2
+    returns-3
+    returns-4
+    returns-5
+    returns-6
+    returns-7
+    returns-8
+    returns-9
+    returns-10)

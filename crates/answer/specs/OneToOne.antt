@@ -1,0 +1,110 @@
+-- The stated values tell the answers apart: each answer can be found again from what is stated of it.
+-- Assumes nothing.
+use Prim.Native.Nat.{ℕ}
+use mathlib.Core.Path.{_≡_, refl, sym, ap, _∙_}
+use mathlib.Core.Bool.{cond}
+use lib.Dec.{eqb}
+use Rattle.limits.specs.Refusals.{shortSheet, strangeMark, badHead, noSuchSite, noSuchStation, loop, badPrice, tooManyLegs, afterTheEnd, unheard, shortTables, noPlan, shortBuffer, cutPlan, badPlan, unknownNumber, noTree, stationMissed, falseTotal}
+use Rattle.answer.specs.declared.SheetFault.the-variants.{ShortSheet, StrangeMark, BadHead, NoSuchSite, NoSuchStation, Loop, BadPrice, TooManyLegs, AfterTheEnd, Unheard}
+use Rattle.answer.specs.declared.TableFault.the-variants.{ShortTables, ShortBuffer}
+use Rattle.answer.specs.declared.SearchFault.the-variants.{NoPlan}
+use Rattle.answer.specs.declared.PlanFault.the-variants.{CutPlan, BadPlan, UnknownNumber, NoTree, StationMissed, FalseTotal}
+use Rattle.answer.specs.declared.Refusal.{Refusal}
+use Rattle.answer.specs.declared.Refusal.the-variants.{Sheet, Tables, Search, PlanFile}
+use Rattle.answer.specs.declared.Answer.{Answer}
+use Rattle.answer.specs.declared.Answer.the-variants.{Plan, Refused}
+use Rattle.answer.specs.declared.Enquiry.{Enquiry}
+use Rattle.answer.specs.declared.Enquiry.the-variants.{Cell, Sender, NoSender, Refused as RefusedEnquiry}
+use Rattle.answer.specs.Stated.{Stated, plan, cell, sender, noSender, refused, statedRefusal, stated, statedEnquiry}
+
+-- the refusal with a number and a place
+abbrev refusalAt : ℕ → ℕ → Refusal
+refusalAt number place =
+    cond (eqb number shortSheet) (Sheet (ShortSheet place)) (
+    cond (eqb number strangeMark) (Sheet (StrangeMark place)) (
+    cond (eqb number badHead) (Sheet (BadHead place)) (
+    cond (eqb number noSuchSite) (Sheet (NoSuchSite place)) (
+    cond (eqb number noSuchStation) (Sheet (NoSuchStation place)) (
+    cond (eqb number loop) (Sheet (Loop place)) (
+    cond (eqb number badPrice) (Sheet (BadPrice place)) (
+    cond (eqb number tooManyLegs) (Sheet (TooManyLegs place)) (
+    cond (eqb number afterTheEnd) (Sheet (AfterTheEnd place)) (
+    cond (eqb number unheard) (Sheet (Unheard place)) (
+    cond (eqb number shortTables) (Tables ShortTables) (
+    cond (eqb number noPlan) (Search NoPlan) (
+    cond (eqb number shortBuffer) (Tables ShortBuffer) (
+    cond (eqb number cutPlan) (PlanFile CutPlan) (
+    cond (eqb number badPlan) (PlanFile (BadPlan place)) (
+    cond (eqb number unknownNumber) (PlanFile (UnknownNumber place)) (
+    cond (eqb number noTree) (PlanFile NoTree) (
+    cond (eqb number stationMissed) (PlanFile StationMissed) (
+    PlanFile FalseTotal))))))))))))))))))
+
+-- a value found from what is stated, where it is known for each kind of answer
+module _ {A : Type 0} (onPlan : ℕ → ℕ → ℕ → A) (onCell onSender : ℕ → A) (onNone : A) (onRefusal : Refusal → A) where
+  find : Stated → A
+  find (plan root total arcs) = onPlan root total arcs
+  find (cell cost) = onCell cost
+  find (sender node) = onSender node
+  find noSender = onNone
+  find (refused family number place) = onRefusal (refusalAt number place)
+
+  find-refusal : (refusal : Refusal) → find (statedRefusal refusal) ≡ onRefusal refusal
+  unfolding find
+  find-refusal (Sheet (ShortSheet place)) = refl
+  find-refusal (Sheet (StrangeMark place)) = refl
+  find-refusal (Sheet (BadHead place)) = refl
+  find-refusal (Sheet (NoSuchSite place)) = refl
+  find-refusal (Sheet (NoSuchStation place)) = refl
+  find-refusal (Sheet (Loop place)) = refl
+  find-refusal (Sheet (BadPrice place)) = refl
+  find-refusal (Sheet (TooManyLegs place)) = refl
+  find-refusal (Sheet (AfterTheEnd place)) = refl
+  find-refusal (Sheet (Unheard place)) = refl
+  find-refusal (Tables ShortTables) = refl
+  find-refusal (Tables ShortBuffer) = refl
+  find-refusal (Search NoPlan) = refl
+  find-refusal (PlanFile CutPlan) = refl
+  find-refusal (PlanFile (BadPlan place)) = refl
+  find-refusal (PlanFile (UnknownNumber place)) = refl
+  find-refusal (PlanFile NoTree) = refl
+  find-refusal (PlanFile StationMissed) = refl
+  find-refusal (PlanFile FalseTotal) = refl
+
+none : Refusal
+none = Search NoPlan
+
+findRefusal : Stated → Refusal
+findRefusal = find (λ _ _ _. none) (λ _. none) (λ _. none) none (λ r. r)
+
+-- two refusals of which the same is stated are one refusal
+pub refusal-one-to-one : (a b : Refusal) → statedRefusal a ≡ statedRefusal b → a ≡ b
+unfolding findRefusal
+refusal-one-to-one a b same =
+    sym (find-refusal _ _ _ _ (λ r. r) a) ∙ ap findRefusal same ∙ find-refusal _ _ _ _ (λ r. r) b
+
+findAnswer : Stated → Answer
+findAnswer = find Plan (λ _. Refused none) (λ _. Refused none) (Refused none) Refused
+
+answer-found : (a : Answer) → findAnswer (stated a) ≡ a
+unfolding findAnswer find
+answer-found (Plan root total arcs) = refl
+answer-found (Refused refusal) = find-refusal _ _ _ _ Refused refusal
+
+-- two answers of the engine or the plan reader of which the same is stated are one answer
+pub answer-one-to-one : (a b : Answer) → stated a ≡ stated b → a ≡ b
+answer-one-to-one a b same = sym (answer-found a) ∙ ap findAnswer same ∙ answer-found b
+
+findEnquiry : Stated → Enquiry
+findEnquiry = find (λ _ _ _. NoSender) Cell Sender NoSender RefusedEnquiry
+
+enquiry-found : (a : Enquiry) → findEnquiry (statedEnquiry a) ≡ a
+unfolding findEnquiry find
+enquiry-found (Cell cost) = refl
+enquiry-found (Sender node) = refl
+enquiry-found NoSender = refl
+enquiry-found (RefusedEnquiry refusal) = find-refusal _ _ _ _ RefusedEnquiry refusal
+
+-- two answers of the enquirer of which the same is stated are one answer
+pub enquiry-one-to-one : (a b : Enquiry) → statedEnquiry a ≡ statedEnquiry b → a ≡ b
+enquiry-one-to-one a b same = sym (enquiry-found a) ∙ ap findEnquiry same ∙ enquiry-found b
