@@ -1,0 +1,26 @@
+-- What every entry of a list has.
+-- Assumes nothing.
+use mathlib.Core.Path.{_≡_, sym, subst}
+use mathlib.Core.List.{List, [], _∷_, _++_, List·Memᴰ, List·Memᴰ·head, List·Memᴰ·tail}
+
+module _ {A : Type 0} (P : A → Type 0) where
+  -- every entry of the list has P
+  abbrev pub Every : List A → Type 0
+  Every [] = Unit {0}
+  Every (x ∷ l) = P x × Every l
+
+  pub every-append : (a b : List A) → Every a → Every b → Every (a ++ b)
+  every-append [] b e f = f
+  every-append (x ∷ a) b e f = (e .0, every-append a b (e .1) f)
+
+  pub every-left : (a b : List A) → Every (a ++ b) → Every a
+  every-left [] b e = tt
+  every-left (x ∷ a) b e = (e .0, every-left a b (e .1))
+
+  pub every-right : (a b : List A) → Every (a ++ b) → Every b
+  every-right [] b e = e
+  every-right (x ∷ a) b e = every-right a b (e .1)
+
+  pub every-mem : {x : A} {l : List A} → Every l → List·Memᴰ x l → P x
+  every-mem e (List·Memᴰ·head s) = subst P (sym s) (e .0)
+  every-mem e (List·Memᴰ·tail m) = every-mem (e .1) m

@@ -1,0 +1,4 @@
+pub mod Every
+pub mod Numbers
+pub mod Over
+pub mod Rest

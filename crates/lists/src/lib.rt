@@ -1,0 +1,1 @@
+// Facts about lists that the kit's libraries lack. The crate has no code: see specs/.

@@ -1,0 +1,15 @@
+// The subsets of ten stations in their order (document 01, "Subsets"): by size, then by number.
+use subset::Subset;
+ghost use mathlib.Core.Path.{_≡_};
+ghost use Prim.Native.Nat.{_<_};
+ghost use Rattle.order.specs.Order.{inOrder};
+
+mod table;
+
+// The subset at a position of the order.
+pub fn at(position: usize) -> Subset
+    requires { ⌜ position < 1024 ⌝ }
+    ensures { λ r. ⌜ r .0 ≡ inOrder position ⌝ }
+{
+    Subset(table::ORDER[position])
+}

@@ -1,0 +1,12 @@
+pub mod Fields
+pub mod Records
+pub mod Arcs
+pub mod Landings
+pub mod Verdict
+pub mod Passed
+pub mod Reads
+pub mod Room
+pub mod Underway
+pub mod Judged
+pub mod Tables
+pub mod Worked

@@ -1,0 +1,50 @@
+-- The records of a sheet: the fields of each, read from the bytes after its mark, and the bytes that it takes.
+-- Assumes nothing.
+use Prim.Native.Nat.{ℕ}
+use mathlib.Core.Bool.{cond}
+use mathlib.Core.List.{List, [], _∷_, _++_}
+use lib.ListN.{length}
+use lib.Dec.{ltb}
+use Rattle.limits.specs.Marks.{markHD, markLK, markBK, markST, markED}
+use Rattle.sheet.specs.Fields.{number8, number16, number32, bytes16, bytes32}
+use Rattle.sheet.specs.declared.fields.HeadFields.{HeadFields}
+use Rattle.sheet.specs.declared.fields.HeadFields.the-variants.{Short as NoHead, Fields as Head}
+use Rattle.sheet.specs.declared.fields.LinkFields.{LinkFields}
+use Rattle.sheet.specs.declared.fields.LinkFields.the-variants.{Short as NoLink, Fields as Link}
+use Rattle.sheet.specs.declared.fields.LandingFields.{LandingFields}
+use Rattle.sheet.specs.declared.fields.LandingFields.the-variants.{Short as NoStation, Fields as Station}
+use Rattle.sheet.specs.declared.record.Record.{Record}
+use Rattle.sheet.specs.declared.record.Record.the-variants.{OneWay, BothWays, Landing}
+
+-- `HD`: sites n (2 bytes), stations k (1)
+abbrev pub headFields : List ℕ → HeadFields
+headFields bytes = cond (ltb (length bytes) 3) NoHead (Head (number16 bytes 0) (number8 bytes 2))
+
+-- `LK` and `BK`: from (2), to (2), price (4)
+abbrev pub linkFields : List ℕ → LinkFields
+linkFields bytes = cond (ltb (length bytes) 8) NoLink (Link (number16 bytes 0) (number16 bytes 2) (number32 bytes 4))
+
+-- `ST`: station (1), site (2)
+abbrev pub landingFields : List ℕ → LandingFields
+landingFields bytes = cond (ltb (length bytes) 3) NoStation (Station (number8 bytes 0) (number16 bytes 1))
+
+-- the bytes of the head, of a record and of the end
+abbrev pub headBytes : ℕ → ℕ → List ℕ
+headBytes n k = bytes16 markHD ++ bytes16 n ++ (k ∷ [])
+
+abbrev pub recordBytes : Record → List ℕ
+recordBytes (OneWay start end weight) = bytes16 markLK ++ bytes16 start ++ bytes16 end ++ bytes32 weight
+recordBytes (BothWays start end weight) = bytes16 markBK ++ bytes16 start ++ bytes16 end ++ bytes32 weight
+recordBytes (Landing terminal node) = bytes16 markST ++ (terminal ∷ []) ++ bytes16 node
+
+abbrev pub endBytes : List ℕ
+endBytes = bytes16 markED
+
+-- how many bytes the head and a record take
+abbrev pub headSize : ℕ
+headSize = 5
+
+abbrev pub size : Record → ℕ
+size (OneWay start end weight) = 10
+size (BothWays start end weight) = 10
+size (Landing terminal node) = 5

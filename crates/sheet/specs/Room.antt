@@ -1,0 +1,29 @@
+-- A reading state with room for one record more: what the code adds up fits its numbers.
+-- Assumes nothing.
+use Prim.Native.Nat.{ℕ, _+_, _≤_, _<_, _^_}
+use mathlib.Core.List.{List}
+use native.Mathlib.Omega.{arith}
+use lib.ListN.{length, drop, length-drop}
+use Rattle.limits.specs.Limits.{maxTerminals, maxArcs}
+use Rattle.sheet.specs.Records.{size}
+use Rattle.sheet.specs.Arcs.{arcsOf}
+use Rattle.sheet.specs.Passed.{RecordOk, Passed}
+use Rattle.sheet.specs.declared.record.Record.{Record}
+use Rattle.sheet.specs.declared.reading.Reading.{Reading}
+
+pub record Room (r : Reading) (x : Record) : Type 0 where
+  pub offset : r .offset + size x < 2 ^ 64
+  pub arcs : r .arcs + length (arcsOf x) < 2 ^ 16
+  pub terminals : r .k ≤ maxTerminals
+  pub ok : RecordOk (r .n) (r .k) x
+
+-- where a record is found, there is room for it
+pub room-found : (r : Reading) (s : List ℕ) (x : Record) → r .arcs ≤ maxArcs → r .k ≤ maxTerminals → r .offset ≤ length s → length s < 2 ^ 64
+    → Passed r (drop (r .offset) s) x → Room r x
+room-found r s x a k o l p =
+    record {
+      offset = omega (arith, p .whole, length-drop (r .offset) s);
+      arcs = omega (arith, p .few a);
+      terminals = k;
+      ok = p .ok;
+    }

@@ -1,0 +1,4 @@
+pub mod Sets
+pub mod Stations
+pub mod Parts
+pub mod Sizes

@@ -1,0 +1,59 @@
+-- Sizes: the number of ones of a set, of a part of it and of the rest.
+-- The library has two of the laws: lib.Count.ones-ones (the size of `full k` is k) and ones-le (a set below 2^k has a size of at most k).
+-- Assumes nothing.
+use Prim.Native.Nat.{ℕ, zero, suc, _+_, _-_, _/_, _^_, _≤_, _<_}
+use mathlib.Core.Path.{_≡_, refl, sym, ap, _∙_}
+use native.Mathlib.Omega.{arith}
+use lib.Arith.{bin-ind}
+use lib.Bits.{and-step, and-le-l, and-zero-r}
+use lib.Count.{ones, ones-step, ones-ones}
+use Rattle.subset.specs.Sets.{empty, single, Part}
+use Rattle.subset.specs.Stations.{single-half, single-even}
+use Rattle.subset.specs.Parts.{part-le}
+
+pub ones-empty : ones empty ≡ 0
+ones-empty = ones-ones 0
+
+pub ones-single : (i : ℕ) → ones (single i) ≡ 1
+ones-single zero = ones-ones 1
+ones-single (suc i) = omega (arith, ones-step (2 ^ suc i), single-even i, ap ones (single-half i), ones-single i)
+
+-- a set that is not empty has a size of 1 or more
+pub ones-pos : (w : ℕ) → 0 < w → 1 ≤ ones w
+ones-pos = bin-ind (λ (w : ℕ). 0 < w → 1 ≤ ones w) (λ h. absurd (omega arith)) step
+  where
+    half : (w : ℕ) → (0 < w / 2 → 1 ≤ ones (w / 2)) → 0 < w → (h : ℕ) → w / 2 ≡ h → 1 ≤ ones w
+    half w ih p zero e = omega (arith, ones-step w)
+    half w ih p (suc h) e = omega (arith, ones-step w, ih (omega arith))
+
+    step : (w : ℕ) → (0 < w / 2 → 1 ≤ ones (w / 2)) → 0 < w → 1 ≤ ones w
+    step w ih p = half w ih p (w / 2) refl
+
+-- the sizes of a part and of the rest make the whole's
+pub ones-part : (w y : ℕ) → Part y w → ones y + ones (w - y) ≡ ones w
+ones-part = bin-ind (λ (w : ℕ). (y : ℕ) → Part y w → ones y + ones (w - y) ≡ ones w) base step
+  where
+    base : (y : ℕ) → Part y 0 → ones y + ones (0 - y) ≡ ones 0
+    base y h =
+        let z : y ≡ 0 = sym h ∙ and-zero-r y in
+        rw z (omega (arith, ones-empty))
+
+    step : (w : ℕ) → ((y : ℕ) → Part y (w / 2) → ones y + ones (w / 2 - y) ≡ ones (w / 2))
+        → (y : ℕ) → Part y w → ones y + ones (w - y) ≡ ones w
+    step w ih y h =
+        let s = and-step y w in
+        let b = and-le-l (y / 2) (w / 2) in
+        let p : Part (y / 2) (w / 2) = omega arith in
+        let l = part-le (y / 2) (w / 2) p in
+        let e : (w - y) / 2 ≡ w / 2 - y / 2 = omega arith in
+        omega (arith, ap ones e, ih (y / 2) p, ones-step y, ones-step w, ones-step (w - y))
+
+-- a part is no greater than the whole, and smaller where it is not the whole; the rest is smaller where the part is not empty
+pub part-size : (w y : ℕ) → Part y w → ones y ≤ ones w
+part-size w y p = omega (arith, ones-part w y p)
+
+pub proper-part-size : (w y : ℕ) → Part y w → y < w → ones y < ones w
+proper-part-size w y p l = omega (arith, ones-part w y p, ones-pos (w - y) (omega arith))
+
+pub rest-size : (w y : ℕ) → Part y w → 0 < y → ones (w - y) < ones w
+rest-size w y p l = omega (arith, ones-part w y p, ones-pos y l)
