@@ -1,6 +1,6 @@
 -- The limits of document 01, "The sheet" and "The cost table".
 -- Assumes nothing.
-use Prim.Native.Nat.{ℕ}
+use Prim.Native.Nat.{ℕ, _^_}
 
 -- the most sites of a sheet
 abbrev pub maxNodes : ℕ
@@ -13,6 +13,10 @@ maxTerminals = 10
 -- the most legs of a sheet
 abbrev pub maxArcs : ℕ
 maxArcs = 8192
+
+-- the number of sets of stations
+abbrev pub maxSubsets : ℕ
+maxSubsets = 2 ^ maxTerminals
 
 -- the least price of a leg, in cents
 abbrev pub minWeight : ℕ

@@ -9,6 +9,9 @@ pub const MAX_TERMINALS: u8 = 10;
 
 pub const MAX_ARCS: u16 = 8192;
 
+// The number of sets of stations: 2 to the power MAX_TERMINALS.
+pub const MAX_SUBSETS: u16 = 1024;
+
 // The least and the greatest price of a leg, in cents.
 pub const MIN_WEIGHT: u32 = 1;
 

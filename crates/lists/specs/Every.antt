@@ -1,7 +1,9 @@
 -- What every entry of a list has.
 -- Assumes nothing.
+use Prim.Native.Nat.{ℕ}
 use mathlib.Core.Path.{_≡_, sym, subst}
 use mathlib.Core.List.{List, [], _∷_, _++_, List·Memᴰ, List·Memᴰ·head, List·Memᴰ·tail}
+use lib.ListN.{take, drop, take-append-drop}
 
 module _ {A : Type 0} (P : A → Type 0) where
   -- every entry of the list has P
@@ -20,6 +22,9 @@ module _ {A : Type 0} (P : A → Type 0) where
   pub every-right : (a b : List A) → Every (a ++ b) → Every b
   every-right [] b e = e
   every-right (x ∷ a) b e = every-right a b (e .1)
+
+  pub every-drop : (n : ℕ) (l : List A) → Every l → Every (drop n l)
+  every-drop n l e = every-right (take n l) (drop n l) (subst Every (sym (take-append-drop n l)) e)
 
   pub every-mem : {x : A} {l : List A} → Every l → List·Memᴰ x l → P x
   every-mem e (List·Memᴰ·head s) = subst P (sym s) (e .0)

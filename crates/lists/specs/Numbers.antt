@@ -1,11 +1,14 @@
 -- Rising numbers, as a list.
 -- Assumes nothing.
 use Prim.Native.Nat.{ℕ, zero, suc, _+_, _<_}
-use mathlib.Core.Path.{_≡_, refl, ap, _∙_}
-use mathlib.Core.List.{List, [], _∷_}
+use mathlib.Core.Path.{_≡_, refl, sym, ap, _∙_}
+use mathlib.Core.Logic.{_≢_}
+use mathlib.Core.List.{List, [], _∷_, map}
 use native.Mathlib.Nat.{le-of-suc-le-suc, not-suc-le-zero}
 use native.Mathlib.Omega.{arith}
-use lib.ListN.{length, getD}
+use native.Mathlib.Decide.{ℕ-discrete}
+use lib.ListN.{length, getD, set, replicate, length-map, length-set, length-replicate, getD-replicate}
+use lib.Seq.{ext-getD, getD-set-same, getD-set-other}
 
 -- n numbers, rising from a
 abbrev pub numbers : ℕ → ℕ → List ℕ
@@ -20,3 +23,48 @@ pub getD-numbers : (a n i d : ℕ) → i < n → getD (numbers a n) i d ≡ a + 
 getD-numbers a zero i d h = absurd (not-suc-le-zero h)
 getD-numbers a (suc n) zero d h = omega arith
 getD-numbers a (suc n) (suc i) d h = getD-numbers (suc a) n i d (le-of-suc-le-suc h) ∙ omega arith
+
+-- ---- a function's values at 0, 1, .., n - 1
+
+module _ (f : ℕ → ℕ) where
+  pub length-values : (a n : ℕ) → length (map f (numbers a n)) ≡ n
+  length-values a n = length-map (numbers a n) f ∙ length-numbers a n
+
+  pub getD-values : (a n i d : ℕ) → i < n → getD (map f (numbers a n)) i d ≡ f (a + i)
+  getD-values a zero i d h = absurd (not-suc-le-zero h)
+  getD-values a (suc n) zero d h = ap f (omega arith)
+  getD-values a (suc n) (suc i) d h = getD-values (suc a) n i d (le-of-suc-le-suc h) ∙ ap f (omega arith)
+
+-- the values of two functions that agree below n
+pub same-values : (f g : ℕ → ℕ) (n : ℕ) → ((i : ℕ) → i < n → f i ≡ g i) → map f (numbers 0 n) ≡ map g (numbers 0 n)
+same-values f g n h =
+    ext-getD 0 (map f (numbers 0 n)) (map g (numbers 0 n)) (length-values f 0 n ∙ sym (length-values g 0 n))
+    (λ i l.
+    let b : i < n = omega (arith, length-values f 0 n) in
+    getD-values f 0 n i 0 b ∙ ap f (omega arith) ∙ h i b ∙ ap g (omega arith) ∙ sym (getD-values g 0 n i 0 b))
+
+-- the values of a function that differs from another at v alone
+pub set-values : (f g : ℕ → ℕ) (n v : ℕ) → v < n → ((i : ℕ) → i ≢ v → f i ≡ g i) → set (map f (numbers 0 n)) v (g v) ≡ map g (numbers 0 n)
+set-values f g n v l h =
+    ext-getD 0 (set (map f (numbers 0 n)) v (g v)) (map g (numbers 0 n)) same-length (λ i b. at i (omega (arith, same-length, length-values g 0 n)))
+  where
+    same-length : length (set (map f (numbers 0 n)) v (g v)) ≡ length (map g (numbers 0 n))
+    same-length = length-set (map f (numbers 0 n)) v (g v) ∙ length-values f 0 n ∙ sym (length-values g 0 n)
+
+    by : (i : ℕ) → i < n → Dec (i ≡ v) → getD (set (map f (numbers 0 n)) v (g v)) i 0 ≡ g i
+    by i b (yes e) =
+        ap (λ (j : ℕ). getD (set (map f (numbers 0 n)) v (g v)) j 0) e
+        ∙ getD-set-same (map f (numbers 0 n)) v (g v) 0 (omega (arith, length-values f 0 n)) ∙ ap g (sym e)
+    by i b (no ne) =
+        getD-set-other (map f (numbers 0 n)) v i (g v) 0 ne ∙ getD-values f 0 n i 0 b ∙ ap f (omega arith) ∙ h i ne
+
+    at : (i : ℕ) → i < n → getD (set (map f (numbers 0 n)) v (g v)) i 0 ≡ getD (map g (numbers 0 n)) i 0
+    at i b = by i b (ℕ-discrete i v) ∙ ap g (omega arith) ∙ sym (getD-values g 0 n i 0 b)
+
+-- a constant's values
+pub constant-values : (n x : ℕ) → map (λ i. x) (numbers 0 n) ≡ replicate n x
+constant-values n x =
+    ext-getD 0 (map (λ i. x) (numbers 0 n)) (replicate n x) (length-values (λ i. x) 0 n ∙ sym (length-replicate n x))
+    (λ i l.
+    let b : i < n = omega (arith, length-values (λ i. x) 0 n) in
+    getD-values (λ i. x) 0 n i 0 b ∙ sym (getD-replicate n i x 0 b))

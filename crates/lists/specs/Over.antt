@@ -6,7 +6,7 @@ use mathlib.Core.List.{List, [], _∷_, _++_, append-assoc}
 use native.Mathlib.Numerals.{add-one}
 use native.Mathlib.Omega.{arith}
 use lib.ListN.{length, getD, drop, set, length-append, length-drop, length-set, List·getD-append}
-use lib.Seq.{drop-cons, set-append-seam, set-append-left}
+use lib.Seq.{drop-at, drop-cons, set-append-seam, set-append-left}
 
 module _ {A : Type 0} where
   -- the table `old` with the entries of `new` in the place of its first ones
@@ -32,3 +32,7 @@ module _ {A : Type 0} where
   pub over-set : (new old : List A) (i : ℕ) (a : A) → i < length new → set (over new old) i a ≡ over (set new i a) old
   over-set new old i a h =
       set-append-left new (drop (length new) old) i a h ∙ ap (λ (n : ℕ). set new i a ++ drop n old) (sym (length-set new i a))
+
+  -- what was written before in the same entries makes no difference
+  pub over-over : (new first old : List A) → length first ≡ length new → over new (over first old) ≡ over new old
+  over-over new first old e = ap (λ (l : List A). new ++ l) (drop-at first (drop (length first) old) (length new) e ∙ ap (λ (n : ℕ). drop n old) e)

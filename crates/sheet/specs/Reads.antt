@@ -13,7 +13,7 @@ use Rattle.subset.specs.Parts.{union-assoc}
 use Rattle.sheet.specs.Records.{headSize, size}
 use Rattle.sheet.specs.Arcs.{Arc, arcsOf, arcs}
 use Rattle.sheet.specs.Landings.{terminalsOf, terminalsAt, heardBy, heard}
-use Rattle.sheet.specs.Verdict.{Verdict, good, bad, sizes, stateAfter, after, foundIn, readFor, reading}
+use Rattle.sheet.specs.Verdict.{good, bad, sizes, stateAfter, after, foundIn, readFor, reading}
 use Rattle.sheet.specs.Passed.{size-low}
 use Rattle.sheet.specs.declared.record.Record.{Record}
 use Rattle.sheet.specs.declared.reading.Found.{Found}
@@ -104,6 +104,7 @@ more-turns turns n k records bytes h = same-turns turns (length bytes) n k recor
 -- ---- the rule of reading, without turns
 
 module _ (n k : ℕ) (records : List Record) (bytes : List ℕ) where
+  -- one turn more than there are bytes
   one-more : reading n k records bytes ≡ readFor (suc (length bytes)) n k records bytes
   one-more = sym (more-turns (suc (length bytes)) n k records bytes (omega arith))
 

@@ -1,7 +1,7 @@
 -- The lent tables that a sheet is loaded into: how long they must be, and what they hold afterwards.
 -- Assumes nothing.
-use Prim.Native.Nat.{ℕ, _≤_}
-use mathlib.Core.Bool.{Bool, _&&_}
+use Prim.Native.Nat.{ℕ}
+use mathlib.Core.Bool.{Bool, cond, _&&_}
 use mathlib.Core.List.{List, map}
 use lib.ListN.{length}
 use lib.Dec.{leb}
@@ -9,8 +9,12 @@ use Rattle.lists.specs.Numbers.{numbers}
 use Rattle.lists.specs.Over.{over}
 use Rattle.sheet.specs.Arcs.{Arc, arcs}
 use Rattle.sheet.specs.Landings.{terminalsAt}
-use Rattle.sheet.specs.Verdict.{Verdict, good, bad}
+use Rattle.sheet.specs.Verdict.{Verdict, good, bad, verdict}
+use Rattle.answer.specs.declared.TableFault.the-variants.{ShortTables}
+use Rattle.answer.specs.declared.Refusal.the-variants.{Sheet as OfSheet, Tables as OfTables}
 use Rattle.sheet.specs.declared.record.Record.{Record}
+use Rattle.sheet.specs.declared.load.Loaded.{Loaded}
+use Rattle.sheet.specs.declared.load.Loaded.the-variants.{Sheet, Refused}
 
 -- leg starts, leg ends, leg prices, landing sets
 pub record Tables : Type 0 where
@@ -22,26 +26,47 @@ pub record Tables : Type 0 where
 abbrev pub tables : List ℕ → List ℕ → List ℕ → List ℕ → Tables
 tables starts ends weights landings = record { starts = starts; ends = ends; weights = weights; landings = landings }
 
--- each table has at least the length stated for it: the number of legs, and n
-abbrev pub longEnough : ℕ → ℕ → Tables → Bool
-longEnough n arcCount t =
-    leb arcCount (length (t .starts)) && leb arcCount (length (t .ends)) && leb arcCount (length (t .weights)) && leb n (length (t .landings))
+-- tables of these lengths are long enough: each has at least the length stated for it, the number of legs or n
+abbrev pub longEnough : (n arcCount starts ends weights landings : ℕ) → Bool
+longEnough n arcCount starts ends weights landings = leb arcCount starts && leb arcCount ends && leb arcCount weights && leb n landings
+
+abbrev pub areLong : ℕ → ℕ → Tables → Bool
+areLong n arcCount t = longEnough n arcCount (length (t .starts)) (length (t .ends)) (length (t .weights)) (length (t .landings))
 
 -- each site's set of stations, by site
 abbrev pub terminalSets : ℕ → List Record → List ℕ
 terminalSets n records = map (terminalsAt records) (numbers 0 n)
 
--- the first entries hold the legs in order and each site's set of stations; later entries are untouched
-unfoldable pub loaded : ℕ → List Record → Tables → Tables
-loaded n records t =
+-- the first entries hold these legs in order and these sets of stations; later entries are untouched
+abbrev pub filled : List Arc → List ℕ → Tables → Tables
+filled list sets t =
     record {
-      starts = over (map (λ a. a .start) (arcs records)) (t .starts);
-      ends = over (map (λ a. a .end) (arcs records)) (t .ends);
-      weights = over (map (λ a. a .weight) (arcs records)) (t .weights);
-      landings = over (terminalSets n records) (t .landings);
+      starts = over (map (λ a. a .start) list) (t .starts);
+      ends = over (map (λ a. a .end) list) (t .ends);
+      weights = over (map (λ a. a .weight) list) (t .weights);
+      landings = over sets (t .landings);
     }
+
+-- the tables that hold a sheet: the legs in order and each site's set of stations
+unfoldable pub loaded : ℕ → List Record → Tables → Tables
+loaded n records t = filled (arcs records) (terminalSets n records) t
 
 -- the tables after the loading of a sheet with this verdict: a refused sheet touches nothing
 abbrev pub loadedBy : Verdict → Tables → Tables
 loadedBy (good n k records) t = loaded n records t
 loadedBy (bad fault) t = t
+
+-- what a loading returns, and the tables afterwards
+pub data Outcome : Type 0 where
+  outcome : Loaded → Tables → Outcome
+
+-- the sheet's refusals and 11 touch nothing
+abbrev pub afterVerdict : Verdict → Tables → Outcome
+afterVerdict (good n k records) t =
+    cond (areLong n (length (arcs records)) t)
+    (outcome (Sheet n k (length (arcs records))) (loaded n records t))
+    (outcome (Refused (OfTables ShortTables)) t)
+afterVerdict (bad fault) t = outcome (Refused (OfSheet fault)) t
+
+abbrev pub loadingOf : List ℕ → Tables → Outcome
+loadingOf sheet t = afterVerdict (verdict sheet) t

@@ -37,7 +37,7 @@ ready s r u =
     subst (λ (q : Reading). (q .arcs ≤ maxArcs) × (q .k ≤ maxTerminals) × (q .offset ≤ length s)) (sym (u .state)) (u .few, u .terminals, u .within)
 
 -- the state after the head
-pub underway-opened : (s : List ℕ) (r : Reading) → openingOf s ≡ Opened r → Underway s r
+unfoldable pub underway-opened : (s : List ℕ) (r : Reading) → openingOf s ≡ Opened r → Underway s r
 unfolding verdict
 underway-opened s r e =
     let o = opening-opened s r e in
@@ -110,7 +110,7 @@ module _ (s : List ℕ) (r : Reading) (u : Underway s r) where
             ∙ ap (reading (u .n) (u .k) (u .records ++ (x ∷ []))) (drop-drop (size x) (headSize + sizes (u .records)) s ∙ ap (λ (z : ℕ). drop z s) (sym o));
       }
 
-  pub underway-next : (x : Record) (q : Reading) → stepOf r s ≡ Next x q → Underway s q
+  unfoldable pub underway-next : (x : Record) (q : Reading) → stepOf r s ≡ Next x q → Underway s q
   underway-next x q e =
       let w = went x q e in
       record {

@@ -112,9 +112,13 @@ union-assoc a b c = same-stations (union (union a b) c) (union a (union b c)) λ
     regroup true y z = refl
     regroup false y z = refl
 
+-- a station of the union is in one of the two sets
+pub union-has : (a b i : ℕ) → T (has (union a b) i) → T (has a i) ⊎ T (has b i)
+union-has a b i t = or-cases (has a i) (has b i) (subst T (has-union a b i) t)
+
 -- the union of two parts is a part
 pub union-part : (a b w : ℕ) → Part a w → Part b w → Part (union a b) w
-union-part a b w p q = has-part (union a b) w (λ i t. go i (or-cases (has a i) (has b i) (subst T (has-union a b i) t)))
+union-part a b w p q = has-part (union a b) w (λ i t. go i (union-has a b i t))
   where
     go : (i : ℕ) → T (has a i) ⊎ T (has b i) → T (has w i)
     go i (inl t) = part-has a w p i t

@@ -1,3 +1,5 @@
+-- `answer::code_of` meets its contract. Each family's number and place are those that its own function gives.
+-- Assumes nothing.
 use borrow.Author.Needs.{needs}
 use Rattle.answer.proofs.code_of.Statement.{statement}
 use Rattle.answer.proofs.code_of.Tie as tie

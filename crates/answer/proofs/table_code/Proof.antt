@@ -1,3 +1,5 @@
+-- `answer::table_code` meets its contract. Each case's number and place are those stated of it.
+-- Assumes nothing.
 use borrow.Author.Needs.{needs}
 use Rattle.answer.proofs.table_code.Statement.{statement}
 use Rattle.answer.proofs.table_code.Tie as tie

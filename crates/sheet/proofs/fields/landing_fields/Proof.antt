@@ -1,24 +1,19 @@
+-- `sheet::fields::landing_fields` meets its contract. The test of the length leads to the fields.
+-- Assumes nothing.
 use borrow.Author.Tests.{le-ltb, lt-ltb}
 use borrow.Author.Needs.{needs}
 use Rattle.sheet.proofs.fields.landing_fields.Statement.{statement}
 use Rattle.sheet.proofs.fields.landing_fields.Tie as tie
-use Rattle.sheet.proofs.fields.landing_fields.Reads as reads
-use Rattle.sheet.proofs.fields.landing_fields.Lts as lts
-use Rattle.sheet.proofs.fields.u16_at.Reads as u16-at-reads
 
--- src/fields.rt:62:9
 returns : tie.Need-returns
 returns c = simp (lt-ltb _ _ (c .if1 .taken))
 
--- src/fields.rt:64:39
 shared-slice-read-t5 : tie.Need-shared-slice-read-t5
 shared-slice-read-t5 c = search needs
 
--- src/fields.rt:64:56
 u16-at-requires : tie.Need-u16-at-requires
 u16-at-requires c κs = search needs
 
--- src/fields.rt:58:1
 returns-2 : tie.Need-returns-2
 returns-2 c = simp (c .u16-at .ensures, le-ltb _ _ (c .before .before .if1 .left))
 

@@ -1,40 +1,32 @@
+-- `sheet::fields::u16_at` meets its contract. A byte is below 256, so two of them make a number of 16 bits.
+-- Assumes nothing.
 use native.Mathlib.Omega.{arith}
 use Prim.Native.Nat.{_+_}
 use borrow.Author.Needs.{needs}
 use Rattle.sheet.proofs.fields.u16_at.Statement.{statement}
 use Rattle.sheet.proofs.fields.u16_at.Tie as tie
-use Rattle.sheet.proofs.fields.u16_at.Reads as reads
-use Rattle.sheet.proofs.fields.u16_at.Lts as lts
 
--- src/fields.rt:30:6
 shared-slice-read-result : tie.Need-shared-slice-read-result
 shared-slice-read-result c = search needs
 
--- src/fields.rt:30:6
 cast-result : tie.Need-cast-result
 cast-result c = omega (arith, c .shared-slice-known .given (c .before .args .at))
 
--- src/fields.rt:30:5
 mul-result : tie.Need-mul-result
 mul-result c = omega (arith, c .shared-slice-known .given (c .before .args .at))
 
--- src/fields.rt:30:39
 add-result : tie.Need-add-result
 add-result c = search needs
 
--- src/fields.rt:30:33
 shared-slice-read-result-2 : tie.Need-shared-slice-read-result-2
 shared-slice-read-result-2 c = search needs
 
--- src/fields.rt:30:33
 cast-result-2 : tie.Need-cast-result-2
 cast-result-2 c = omega (arith, c .shared-slice-known2 .given (c .before .before .args .at + 1))
 
--- src/fields.rt:30:5
 add-result-2 : tie.Need-add-result-2
 add-result-2 c = omega (arith, c .shared-slice-known2 .given (c .before .before .args .at + 1), c .before .shared-slice-known .given (c .before .before .args .at))
 
--- src/fields.rt:26:1
 returns : tie.Need-returns
 returns c = search needs
 

@@ -1,35 +1,27 @@
+-- `sheet::judge::judge` meets its contract. The reading is underway after the head.
+-- Assumes nothing.
 use mathlib.Core.Path.{_≡_, sym, ap, _∙_}
 use Rattle.sheet.specs.Underway.{underway-opened, not-opened}
 use Rattle.sheet.specs.Judged.{judgedOf}
 use borrow.Author.Needs.{needs}
 use Rattle.sheet.proofs.judge.judge.Statement.{statement}
 use Rattle.sheet.proofs.judge.judge.Tie as tie
-use Rattle.sheet.proofs.judge.judge.Reads as reads
-use Rattle.sheet.proofs.judge.judge.Lts as lts
-use Rattle.sheet.proofs.judge.read_on.Reads as read-on-reads
-use Rattle.sheet.proofs.reading.Reading.begin.Reads as begin-reads
 
--- src/judge.rt:43:9
 begin-requires : tie.Need-begin-requires
 begin-requires c κs = search needs
 
--- src/judge.rt:45:23
 enum-known-opening : tie.Need-enum-known-opening
 enum-known-opening c = search needs
 
--- src/judge.rt:45:33
 read-on-requires : tie.Need-read-on-requires
 read-on-requires c κs = underway-opened _ _ (sym (c .before .before .before .begin .ensures) ∙ c .before .opening .given .1)
 
--- src/judge.rt:46:24
 enum-known-opening-2 : tie.Need-enum-known-opening-2
 enum-known-opening-2 c = search needs
 
--- src/judge.rt:40:1
 returns : tie.Need-returns
 returns c = search needs
 
--- src/judge.rt:40:1
 returns-2 : tie.Need-returns-2
 returns-2 c = ap judgedOf (sym (not-opened _ _ (sym (c .before .before .before .begin .ensures) ∙ c .before .opening2 .given .1)))
 

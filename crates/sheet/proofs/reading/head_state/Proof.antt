@@ -1,26 +1,21 @@
+-- `sheet::reading::head_state` meets its contract. Each return has the tests that led to it.
+-- Assumes nothing.
 use borrow.Author.Tests.{le-ltb, lt-ltb}
 use Rattle.sheet.proofs.reading.head_state.Statement.{statement}
 use Rattle.sheet.proofs.reading.head_state.Tie as tie
-use Rattle.sheet.proofs.reading.head_state.Reads as reads
-use Rattle.sheet.proofs.reading.head_state.Lts as lts
 
--- src/reading.rt:53:9
 returns : tie.Need-returns
 returns c = simp (lt-ltb _ _ (c .if1 .taken))
 
--- src/reading.rt:56:9
 returns-2 : tie.Need-returns-2
 returns-2 c = simp (lt-ltb _ _ (c .if2 .taken), le-ltb _ _ (c .before .if1 .left))
 
--- src/reading.rt:59:9
 returns-3 : tie.Need-returns-3
 returns-3 c = simp (lt-ltb _ _ (c .if3 .taken), le-ltb _ _ (c .before .if2 .left), le-ltb _ _ (c .before .before .if1 .left))
 
--- src/reading.rt:62:9
 returns-4 : tie.Need-returns-4
 returns-4 c = simp (lt-ltb _ _ (c .if4 .taken), le-ltb _ _ (c .before .if3 .left), le-ltb _ _ (c .before .before .if2 .left), le-ltb _ _ (c .before .before .before .if1 .left))
 
--- src/reading.rt:49:1
 returns-5 : tie.Need-returns-5
 returns-5 c = simp (le-ltb _ _ (c .if4 .left), le-ltb _ _ (c .before .if3 .left), le-ltb _ _ (c .before .before .if2 .left), le-ltb _ _ (c .before .before .before .if1 .left))
 

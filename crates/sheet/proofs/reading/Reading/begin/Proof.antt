@@ -1,3 +1,5 @@
+-- `sheet::reading::Reading::begin` meets its contract. Each return has the tests that led to it; the fields are those of the part after the mark.
+-- Assumes nothing.
 use mathlib.Core.Path.{_≡_, ap, _∙_}
 use lib.ListN.{drop}
 use denote.Ref.{now}
@@ -7,60 +9,43 @@ use Rattle.lists.specs.Rest.{take-rest}
 use borrow.Author.Needs.{needs}
 use Rattle.sheet.proofs.reading.Reading.begin.Statement.{statement}
 use Rattle.sheet.proofs.reading.Reading.begin.Tie as tie
-use Rattle.sheet.proofs.reading.Reading.begin.Reads as reads
-use Rattle.sheet.proofs.reading.Reading.begin.Lts as lts
-use Rattle.sheet.proofs.fields.head_fields.Reads as head-fields-reads
-use Rattle.sheet.proofs.fields.u16_at.Reads as u16-at-reads
-use Rattle.sheet.proofs.reading.head_state.Reads as head-state-reads
 
--- src/reading.rt:73:13
 returns : tie.Need-returns
 returns c = simp (lt-ltb _ _ (c .if1 .taken))
 
--- src/reading.rt:75:13
 u16-at-requires : tie.Need-u16-at-requires
 u16-at-requires c κs = search needs
 
--- src/reading.rt:77:13
 returns-2 : tie.Need-returns-2
 returns-2 c = simp (le-ltb _ _ (c .before .before .if1 .left), ← c .before .u16-at .ensures, ne-eqb _ _ (c .if2 .taken))
 
--- src/reading.rt:79:32
 sub-head-fields : tie.Need-sub-head-fields
 sub-head-fields c = search needs
 
--- src/reading.rt:79:32
 part-head-fields-start : tie.Need-part-head-fields-start
 part-head-fields-start c = search needs
 
--- src/reading.rt:79:32
 part-head-fields-end : tie.Need-part-head-fields-end
 part-head-fields-end c = search needs
 
--- src/reading.rt:79:13
 head-fields-requires : tie.Need-head-fields-requires
 head-fields-requires c κs = search needs
 
--- src/reading.rt:81:49
 enum-told : tie.Need-enum-told
 enum-told c = search needs
 
--- src/reading.rt:82:34
 enum-known-read : tie.Need-enum-known-read
 enum-known-read c = search needs
 
--- src/reading.rt:82:44
 head-state-requires : tie.Need-head-state-requires
 head-state-requires c κs = search needs
 
 is-read : (c : tie.After-head-fields) → c .head-fields .result ≡ headFields (drop 2 (now (c .before .before .before .before .before .before .args .sheet)))
 is-read c = c .head-fields .ensures ∙ ap headFields (take-rest 2 (now (c .before .before .before .before .before .before .args .sheet)))
 
--- src/reading.rt:69:5
 returns-3 : tie.Need-returns-3
 returns-3 c = simp (le-ltb _ _ (c .before .before .before .before .before .before .if1 .left), ← c .before .before .before .before .before .u16-at .ensures, eq-eqb _ _ (c .before .before .before .before .if2 .left), ← is-read (c .before .before), c .enum-told .given .1)
 
--- src/reading.rt:69:5
 returns-4 : tie.Need-returns-4
 returns-4 c = simp (le-ltb _ _ (c .before .before .before .before .before .before .before .before .if1 .left), ← c .before .before .before .before .before .before .before .u16-at .ensures, eq-eqb _ _ (c .before .before .before .before .before .before .if2 .left), ← is-read (c .before .before .before .before), c .before .before .read .given .1) (c .head-state .ensures)
 

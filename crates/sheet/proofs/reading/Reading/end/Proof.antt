@@ -1,29 +1,23 @@
+-- `sheet::reading::Reading::end` meets its contract. Each return has the tests that led to it.
+-- Assumes nothing.
 use mathlib.Core.Path.{_≡_, _∙_, sym}
 use borrow.Author.Tests.{eq-eqb, le-ltb, lt-ltb, ne-eqb}
 use borrow.Author.Needs.{needs}
 use Rattle.sheet.proofs.reading.Reading.end.Statement.{statement}
 use Rattle.sheet.proofs.reading.Reading.end.Tie as tie
-use Rattle.sheet.proofs.reading.Reading.end.Reads as reads
-use Rattle.sheet.proofs.reading.Reading.end.Lts as lts
-use Rattle.subset.proofs.Subset.full.Reads as full-reads
 
--- src/reading.rt:170:57
 add-t7 : tie.Need-add-t7
 add-t7 c = search needs
 
--- src/reading.rt:170:13
 returns : tie.Need-returns
 returns c = simp (lt-ltb _ _ (c .if1 .taken))
 
--- src/reading.rt:173:23
 full-requires : tie.Need-full-requires
 full-requires c κs = search needs
 
--- src/reading.rt:174:13
 returns-2 : tie.Need-returns-2
 returns-2 c = simp (le-ltb _ _ (c .before .before .before .before .before .if1 .left), eq-eqb _ _ (c .if2 .taken ∙ c .before .before .before .full .ensures))
 
--- src/reading.rt:164:5
 returns-3 : tie.Need-returns-3
 returns-3 c = simp (le-ltb _ _ (c .before .before .before .before .before .if1 .left), ne-eqb _ _ (λ e. c .if2 .left (e ∙ sym (c .before .before .before .full .ensures))))
 

@@ -1,105 +1,77 @@
+-- `sheet::reading::Reading::found` meets its contract. The mark leads to the record's own reader, which has the part after the mark.
+-- Assumes nothing.
 use borrow.Author.Tests.{eq-eqb, le-ltb, lt-ltb, ne-eqb}
 use Rattle.lists.specs.Rest.{take-rest}
 use borrow.Author.Needs.{needs}
 use Rattle.sheet.proofs.reading.Reading.found.Statement.{statement}
 use Rattle.sheet.proofs.reading.Reading.found.Tie as tie
-use Rattle.sheet.proofs.reading.Reading.found.Reads as reads
-use Rattle.sheet.proofs.reading.Reading.found.Lts as lts
-use Rattle.sheet.proofs.fields.u16_at.Reads as u16-at-reads
-use Rattle.sheet.proofs.reading.Reading.both_ways.Reads as both-ways-reads
-use Rattle.sheet.proofs.reading.Reading.end.Reads as end-reads
-use Rattle.sheet.proofs.reading.Reading.landing.Reads as landing-reads
-use Rattle.sheet.proofs.reading.Reading.one_way.Reads as one-way-reads
 
--- src/reading.rt:185:13
 returns : tie.Need-returns
 returns c = simp (lt-ltb _ _ (c .if1 .taken))
 
--- src/reading.rt:187:13
 u16-at-requires : tie.Need-u16-at-requires
 u16-at-requires c κs = search needs
 
--- src/reading.rt:189:33
 sub-one-way : tie.Need-sub-one-way
 sub-one-way c = search needs
 
--- src/reading.rt:189:33
 part-one-way-start : tie.Need-part-one-way-start
 part-one-way-start c = search needs
 
--- src/reading.rt:189:33
 part-one-way-end : tie.Need-part-one-way-end
 part-one-way-end c = search needs
 
--- src/reading.rt:189:13
 one-way-requires : tie.Need-one-way-requires
 one-way-requires c κs = search needs
 
--- src/reading.rt:189:13
 returns-2 : tie.Need-returns-2
 returns-2 c = simp (le-ltb _ _ (c .before .before .before .before .if1 .left), ← c .before .before .before .u16-at .ensures, eq-eqb _ _ (c .before .before .if2 .taken)) (rw take-rest at (c .one-way .ensures))
 
--- src/reading.rt:192:35
 sub-both-ways : tie.Need-sub-both-ways
 sub-both-ways c = search needs
 
--- src/reading.rt:192:35
 part-both-ways-start : tie.Need-part-both-ways-start
 part-both-ways-start c = search needs
 
--- src/reading.rt:192:35
 part-both-ways-end : tie.Need-part-both-ways-end
 part-both-ways-end c = search needs
 
--- src/reading.rt:192:13
 both-ways-requires : tie.Need-both-ways-requires
 both-ways-requires c κs = search needs
 
--- src/reading.rt:192:13
 returns-3 : tie.Need-returns-3
 returns-3 c = simp (le-ltb _ _ (c .before .before .before .before .before .if1 .left), ← c .before .before .before .before .u16-at .ensures, eq-eqb _ _ (c .before .before .if3 .taken), ne-eqb _ _ (c .before .before .before .if2 .left)) (rw take-rest at (c .both-ways .ensures))
 
--- src/reading.rt:195:33
 sub-landing : tie.Need-sub-landing
 sub-landing c = search needs
 
--- src/reading.rt:195:33
 part-landing-start : tie.Need-part-landing-start
 part-landing-start c = search needs
 
--- src/reading.rt:195:33
 part-landing-end : tie.Need-part-landing-end
 part-landing-end c = search needs
 
--- src/reading.rt:195:13
 landing-requires : tie.Need-landing-requires
 landing-requires c κs = search needs
 
--- src/reading.rt:195:13
 returns-4 : tie.Need-returns-4
 returns-4 c = simp (le-ltb _ _ (c .before .before .before .before .before .before .if1 .left), ← c .before .before .before .before .before .u16-at .ensures, eq-eqb _ _ (c .before .before .if4 .taken), ne-eqb _ _ (c .before .before .before .before .if2 .left), ne-eqb _ _ (c .before .before .before .if3 .left)) (rw take-rest at (c .landing .ensures))
 
--- src/reading.rt:198:29
 sub-end : tie.Need-sub-end
 sub-end c = search needs
 
--- src/reading.rt:198:29
 part-end-start : tie.Need-part-end-start
 part-end-start c = search needs
 
--- src/reading.rt:198:29
 part-end-end : tie.Need-part-end-end
 part-end-end c = search needs
 
--- src/reading.rt:198:13
 end-requires : tie.Need-end-requires
 end-requires c κs = search needs
 
--- src/reading.rt:198:13
 returns-5 : tie.Need-returns-5
 returns-5 c = simp (le-ltb _ _ (c .before .before .before .before .before .before .before .if1 .left), ← c .before .before .before .before .before .before .u16-at .ensures, eq-eqb _ _ (c .before .before .if5 .taken), ne-eqb _ _ (c .before .before .before .before .before .if2 .left), ne-eqb _ _ (c .before .before .before .before .if3 .left), ne-eqb _ _ (c .before .before .before .if4 .left)) (rw take-rest at (c .end .ensures))
 
--- src/reading.rt:180:5
 returns-6 : tie.Need-returns-6
 returns-6 c = simp (le-ltb _ _ (c .before .before .before .before .before .if1 .left), ← c .before .before .before .before .u16-at .ensures, ne-eqb _ _ (c .before .before .before .if2 .left), ne-eqb _ _ (c .before .before .if3 .left), ne-eqb _ _ (c .before .if4 .left), ne-eqb _ _ (c .if5 .left))
 

@@ -1,3 +1,5 @@
+-- `sheet::reading::Reading::step` meets its contract. What stands next is found in the part from the offset on, and a record that is found has room.
+-- Assumes nothing.
 use native.Mathlib.Omega.{arith}
 use mathlib.Core.Path.{_≡_, sym, ap, _∙_}
 use lib.ListN.{drop}
@@ -10,55 +12,40 @@ use Rattle.sheet.proofs.NextState.{step-item, step-end, step-fault}
 use borrow.Author.Needs.{needs}
 use Rattle.sheet.proofs.reading.Reading.step.Statement.{statement}
 use Rattle.sheet.proofs.reading.Reading.step.Tie as tie
-use Rattle.sheet.proofs.reading.Reading.step.Reads as reads
-use Rattle.sheet.proofs.reading.Reading.step.Lts as lts
-use Rattle.sheet.proofs.reading.Reading.after.Reads as after-reads
-use Rattle.sheet.proofs.reading.Reading.found.Reads as found-reads
 
--- src/reading.rt:233:32
 sub-found : tie.Need-sub-found
 sub-found c = search needs
 
--- src/reading.rt:233:32
 part-found-start : tie.Need-part-found-start
 part-found-start c = search needs
 
--- src/reading.rt:233:32
 part-found-end : tie.Need-part-found-end
 part-found-end c = search needs
 
--- src/reading.rt:233:13
 found-requires : tie.Need-found-requires
 found-requires c κs = search needs
 
--- src/reading.rt:235:25
 enum-known-found : tie.Need-enum-known-found
 enum-known-found c = search needs
 
 is-found : (c : tie.After-found) → c .found .result ≡ foundIn (c .before .before .before .args .self) (drop (c .before .before .before .args .self .offset) (now (c .before .before .before .args .sheet)))
 is-found c = c .found .ensures ∙ ap (foundIn (c .before .before .before .args .self)) (take-rest (c .before .before .before .args .self .offset) (now (c .before .before .before .args .sheet)))
 
--- src/reading.rt:235:55
 after-requires : tie.Need-after-requires
 after-requires c κs = room-found (c .before .before .before .before .before .before .args .self) (now (c .before .before .before .before .before .before .args .sheet)) _ (c .before .before .before .before .before .before .pre .0) (c .before .before .before .before .before .before .pre .1) (c .before .before .before .before .before .before .pre .2) (omega arith) (found-item (c .before .before .before .before .before .before .args .self) (drop (c .before .before .before .before .before .before .args .self .offset) (now (c .before .before .before .before .before .before .args .sheet))) _ (sym (is-found (c .before .before .before)) ∙ c .before .found2 .given .1))
 
--- src/reading.rt:236:27
 enum-told : tie.Need-enum-told
 enum-told c = search needs
 
--- src/reading.rt:237:26
 enum-known-found-2 : tie.Need-enum-known-found-2
 enum-known-found-2 c = search needs
 
--- src/reading.rt:228:5
 returns : tie.Need-returns
 returns c = step-item (c .before .before .before .before .before .before .before .args .self) (now (c .before .before .before .before .before .before .before .args .sheet)) _ (c .after .result) (sym (is-found (c .before .before .before .before)) ∙ c .before .before .found2 .given .1) (c .after .ensures)
 
--- src/reading.rt:228:5
 returns-2 : tie.Need-returns-2
 returns-2 c = step-end (c .before .before .before .before .before .args .self) (now (c .before .before .before .before .before .args .sheet)) (sym (is-found (c .before .before)) ∙ c .enum-told .given .1)
 
--- src/reading.rt:228:5
 returns-3 : tie.Need-returns-3
 returns-3 c = step-fault (c .before .before .before .before .before .before .args .self) (now (c .before .before .before .before .before .before .args .sheet)) _ (sym (is-found (c .before .before .before)) ∙ c .before .found3 .given .1)
 

@@ -1,39 +1,31 @@
+-- `sheet::reading::Reading::tested_link` meets its contract. Each return has the tests that led to it.
+-- Assumes nothing.
 use borrow.Author.Tests.{eq-eqb, le-leb, le-ltb, lt-leb, lt-ltb, ne-eqb}
 use borrow.Author.Needs.{needs}
 use Rattle.sheet.proofs.reading.Reading.tested_link.Statement.{statement}
 use Rattle.sheet.proofs.reading.Reading.tested_link.Tie as tie
-use Rattle.sheet.proofs.reading.Reading.tested_link.Reads as reads
-use Rattle.sheet.proofs.reading.Reading.tested_link.Lts as lts
 
--- src/reading.rt:93:13
 returns : tie.Need-returns
 returns c = simp (le-leb _ _ (c .if1 .taken))
 
--- src/reading.rt:96:13
 returns-2 : tie.Need-returns-2
 returns-2 c = simp (le-leb _ _ (c .if2 .taken), lt-leb _ _ (c .before .before .if1 .left))
 
--- src/reading.rt:99:13
 returns-3 : tie.Need-returns-3
 returns-3 c = simp (eq-eqb _ _ (c .if3 .taken), lt-leb _ _ (c .before .if2 .left), lt-leb _ _ (c .before .before .before .if1 .left))
 
--- src/reading.rt:102:13
 returns-4 : tie.Need-returns-4
 returns-4 c = simp (lt-ltb _ _ (c .if4 .taken), ne-eqb _ _ (c .before .if3 .left), lt-leb _ _ (c .before .before .if2 .left), lt-leb _ _ (c .before .before .before .before .if1 .left))
 
--- src/reading.rt:105:13
 returns-5 : tie.Need-returns-5
 returns-5 c = simp (lt-ltb _ _ (c .if5 .taken), le-ltb _ _ (c .before .if4 .left), ne-eqb _ _ (c .before .before .if3 .left), lt-leb _ _ (c .before .before .before .if2 .left), lt-leb _ _ (c .before .before .before .before .before .if1 .left))
 
--- src/reading.rt:107:31
 add-if6 : tie.Need-add-if6
 add-if6 c = search needs
 
--- src/reading.rt:108:13
 returns-6 : tie.Need-returns-6
 returns-6 c = simp (lt-ltb _ _ (c .if6 .taken), le-ltb _ _ (c .before .before .if5 .left), le-ltb _ _ (c .before .before .before .if4 .left), ne-eqb _ _ (c .before .before .before .before .if3 .left), lt-leb _ _ (c .before .before .before .before .before .if2 .left), lt-leb _ _ (c .before .before .before .before .before .before .before .if1 .left))
 
--- src/reading.rt:87:5
 returns-7 : tie.Need-returns-7
 returns-7 c = simp (le-ltb _ _ (c .if6 .left), le-ltb _ _ (c .before .before .if5 .left), le-ltb _ _ (c .before .before .before .if4 .left), ne-eqb _ _ (c .before .before .before .before .if3 .left), lt-leb _ _ (c .before .before .before .before .before .if2 .left), lt-leb _ _ (c .before .before .before .before .before .before .before .if1 .left))
 

@@ -1,0 +1,62 @@
+-- `sheet::load::load_sheet` meets its contract. The sheet is judged, the lengths are tested, and the tables are loaded.
+-- Assumes nothing.
+use mathlib.Core.Path.{_≡_, sym, _∙_}
+use denote.Ref.{now}
+use Rattle.sheet.specs.Tables.{tables}
+use Rattle.sheet.specs.Loading.{loadable-tested, loaded-whole, refused-short, refused-sheet}
+use borrow.Author.Needs.{needs}
+use Rattle.sheet.proofs.load.load_sheet.Statement.{statement}
+use Rattle.sheet.proofs.load.load_sheet.Tie as tie
+
+judge-requires : tie.Need-judge-requires
+judge-requires c κs = search needs
+
+enum-known-judged : tie.Need-enum-known-judged
+enum-known-judged c = search needs
+
+enum-known-judged-2 : tie.Need-enum-known-judged-2
+enum-known-judged-2 c = search needs
+
+long-enough-requires : tie.Need-long-enough-requires
+long-enough-requires c κs = search needs
+
+load-requires : tie.Need-load-requires
+load-requires c κs = loadable-tested (now (c .before .before .before .before .before .before .before .before .before .before .before .before .before .before .before .args .sheet)) (tables (now (c .before .before .before .before .before .before .before .before .before .before .before .before .before .before .before .args .starts)) (now (c .before .before .before .before .before .before .before .before .before .before .before .before .before .before .before .args .ends)) (now (c .before .before .before .before .before .before .before .before .before .before .before .before .before .before .before .args .weights)) (now (c .before .before .before .before .before .before .before .before .before .before .before .before .before .before .before .args .landings))) _ _ _ (sym (c .before .before .before .before .before .before .before .judged2 .given .1) ∙ c .before .before .before .before .before .before .before .before .before .judge .ensures) (sym (c .before .before .before .before .before .long-enough .ensures) ∙ c .before .before .before .before .if1 .taken)
+
+same-length : tie.Need-same-length
+same-length c = search needs
+
+same-length-2 : tie.Need-same-length-2
+same-length-2 c = search needs
+
+same-length-3 : tie.Need-same-length-3
+same-length-3 c = search needs
+
+same-length-4 : tie.Need-same-length-4
+same-length-4 c = search needs
+
+returns : tie.Need-returns
+returns c = loaded-whole (now (c .before .before .before .before .before .before .before .before .before .before .before .before .before .before .before .before .before .before .before .before .before .before .before .before .args .sheet)) (tables (now (c .before .before .before .before .before .before .before .before .before .before .before .before .before .before .before .before .before .before .before .before .before .before .before .before .args .starts)) (now (c .before .before .before .before .before .before .before .before .before .before .before .before .before .before .before .before .before .before .before .before .before .before .before .before .args .ends)) (now (c .before .before .before .before .before .before .before .before .before .before .before .before .before .before .before .before .before .before .before .before .before .before .before .before .args .weights)) (now (c .before .before .before .before .before .before .before .before .before .before .before .before .before .before .before .before .before .before .before .before .before .before .before .before .args .landings))) _ _ _ (sym (c .before .before .before .before .before .before .before .before .before .before .before .before .before .before .before .before .judged2 .given .1) ∙ c .before .before .before .before .before .before .before .before .before .before .before .before .before .before .before .before .before .before .judge .ensures) (sym (c .before .before .before .before .before .before .before .before .before .before .before .before .before .before .long-enough .ensures) ∙ c .before .before .before .before .before .before .before .before .before .before .before .before .before .if1 .taken) _ (c .before .before .before .before .before .before .before .before .load .ensures)
+
+returns-2 : tie.Need-returns-2
+returns-2 c = refused-sheet (now (c .before .before .before .before .before .before .before .before .before .args .sheet)) (tables (now (c .before .before .before .before .before .before .before .before .before .args .starts)) (now (c .before .before .before .before .before .before .before .before .before .args .ends)) (now (c .before .before .before .before .before .before .before .before .before .args .weights)) (now (c .before .before .before .before .before .before .before .before .before .args .landings))) _ (sym (c .before .judged .given .1) ∙ c .before .before .before .judge .ensures)
+
+returns-3 : tie.Need-returns-3
+returns-3 c = refused-short (now (c .before .before .before .before .before .before .before .before .before .before .before .args .sheet)) (tables (now (c .before .before .before .before .before .before .before .before .before .before .before .args .starts)) (now (c .before .before .before .before .before .before .before .before .before .before .before .args .ends)) (now (c .before .before .before .before .before .before .before .before .before .before .before .args .weights)) (now (c .before .before .before .before .before .before .before .before .before .before .before .args .landings))) _ _ _ (sym (c .before .before .before .judged2 .given .1) ∙ c .before .before .before .before .before .judge .ensures) (sym (c .before .long-enough .ensures) ∙ c .if1 .left)
+
+pub load-sheet-spec : {M : Type 1} → statement M
+load-sheet-spec =
+    tie.close
+    (tie.spec
+    judge-requires
+    enum-known-judged
+    enum-known-judged-2
+    long-enough-requires
+    load-requires
+    same-length
+    same-length-2
+    same-length-3
+    same-length-4
+    returns
+    returns-2
+    returns-3)

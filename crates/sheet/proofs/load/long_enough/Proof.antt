@@ -1,0 +1,20 @@
+-- `sheet::load::long_enough` meets its contract. Each return has the tests that led to it.
+-- Assumes nothing.
+use borrow.Author.Tests.{le-leb, lt-leb}
+use Rattle.sheet.proofs.load.long_enough.Statement.{statement}
+use Rattle.sheet.proofs.load.long_enough.Tie as tie
+
+returns : tie.Need-returns
+returns c = simp (lt-leb _ _ (c .if1 .taken))
+
+returns-2 : tie.Need-returns-2
+returns-2 c = simp (lt-leb _ _ (c .if2 .taken), le-leb _ _ (c .before .if1 .left))
+
+returns-3 : tie.Need-returns-3
+returns-3 c = simp (lt-leb _ _ (c .if3 .taken), le-leb _ _ (c .before .if2 .left), le-leb _ _ (c .before .before .if1 .left))
+
+returns-4 : tie.Need-returns-4
+returns-4 c = simp (le-leb _ _ (c .if3 .left), le-leb _ _ (c .before .if2 .left), le-leb _ _ (c .before .before .if1 .left))
+
+pub long-enough-spec : {M : Type 1} → statement M
+long-enough-spec = tie.close (tie.spec returns returns-2 returns-3 returns-4)

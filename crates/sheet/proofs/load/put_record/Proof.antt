@@ -1,0 +1,80 @@
+-- `sheet::load::put_record` meets its contract. The tables have room for the record's legs and landing, and each table is what the record writes.
+-- Assumes nothing.
+use mathlib.Core.Path.{_≡_, subst}
+use native.Mathlib.Omega.{arith}
+use denote.Ref.{now}
+use Rattle.sheet.specs.Tables.{tables}
+use Rattle.sheet.specs.Writing.{Fits, one-way-written, both-ways-written, landing-written}
+use Rattle.sheet.specs.declared.record.Record.{Record}
+use borrow.Author.Needs.{needs}
+use Rattle.sheet.proofs.load.put_record.Statement.{statement}
+use Rattle.sheet.proofs.load.put_record.Tie as tie
+
+enum-known-item : tie.Need-enum-known-item
+enum-known-item c = search needs
+
+put-arc-requires : tie.Need-put-arc-requires
+put-arc-requires c κs = let f = subst (λ (x : Record). Fits (c .before .before .before .before .before .before .before .before .before .before .args .at) x (tables (now (c .before .before .before .before .before .before .before .before .before .before .args .starts)) (now (c .before .before .before .before .before .before .before .before .before .before .args .ends)) (now (c .before .before .before .before .before .before .before .before .before .before .args .weights)) (now (c .before .before .before .before .before .before .before .before .before .before .args .landings)))) (c .before .before .before .before .item .given .1) (c .before .before .before .before .before .before .before .before .before .before .pre) in (omega (arith, f .starts), omega (arith, f .ends), omega (arith, f .weights))
+
+enum-known-item-2 : tie.Need-enum-known-item-2
+enum-known-item-2 c = search needs
+
+put-both-requires : tie.Need-put-both-requires
+put-both-requires c κs = let f = subst (λ (x : Record). Fits (c .before .before .before .before .before .before .before .before .before .before .args .at) x (tables (now (c .before .before .before .before .before .before .before .before .before .before .args .starts)) (now (c .before .before .before .before .before .before .before .before .before .before .args .ends)) (now (c .before .before .before .before .before .before .before .before .before .before .args .weights)) (now (c .before .before .before .before .before .before .before .before .before .before .args .landings)))) (c .before .before .before .before .item2 .given .1) (c .before .before .before .before .before .before .before .before .before .before .pre) in (omega (arith, f .starts), omega (arith, f .ends), omega (arith, f .weights))
+
+enum-known-item-3 : tie.Need-enum-known-item-3
+enum-known-item-3 c = search needs
+
+put-landing-requires : tie.Need-put-landing-requires
+put-landing-requires c κs = subst (λ (x : Record). Fits (c .before .before .before .before .before .before .before .before .args .at) x (tables (now (c .before .before .before .before .before .before .before .before .args .starts)) (now (c .before .before .before .before .before .before .before .before .args .ends)) (now (c .before .before .before .before .before .before .before .before .args .weights)) (now (c .before .before .before .before .before .before .before .before .args .landings)))) (c .before .before .item3 .given .1) (c .before .before .before .before .before .before .before .before .pre) .landings
+
+same-length : tie.Need-same-length
+same-length c = search needs
+
+same-length-2 : tie.Need-same-length-2
+same-length-2 c = search needs
+
+same-length-3 : tie.Need-same-length-3
+same-length-3 c = search needs
+
+returns : tie.Need-returns
+returns c = one-way-written (c .before .before .before .before .before .before .before .before .before .before .before .before .before .before .before .before .before .args .at) (c .before .before .before .before .before .before .before .before .before .before .before .before .before .before .before .before .before .args .item) (tables (now (c .before .before .before .before .before .before .before .before .before .before .before .before .before .before .before .before .before .args .starts)) (now (c .before .before .before .before .before .before .before .before .before .before .before .before .before .before .before .before .before .args .ends)) (now (c .before .before .before .before .before .before .before .before .before .before .before .before .before .before .before .before .before .args .weights)) (now (c .before .before .before .before .before .before .before .before .before .before .before .before .before .before .before .before .before .args .landings))) _ _ _ (c .before .before .before .before .before .before .before .before .before .before .before .item .given .1) (c .before .before .before .before .before .before .put-arc .ensures .0) (c .before .before .before .before .before .before .put-arc .ensures .1 .0) (c .before .before .before .before .before .before .put-arc .ensures .1 .1)
+
+same-length-4 : tie.Need-same-length-4
+same-length-4 c = search needs
+
+same-length-5 : tie.Need-same-length-5
+same-length-5 c = search needs
+
+same-length-6 : tie.Need-same-length-6
+same-length-6 c = search needs
+
+returns-2 : tie.Need-returns-2
+returns-2 c = both-ways-written (c .before .before .before .before .before .before .before .before .before .before .before .before .before .before .before .before .before .args .at) (c .before .before .before .before .before .before .before .before .before .before .before .before .before .before .before .before .before .args .item) (tables (now (c .before .before .before .before .before .before .before .before .before .before .before .before .before .before .before .before .before .args .starts)) (now (c .before .before .before .before .before .before .before .before .before .before .before .before .before .before .before .before .before .args .ends)) (now (c .before .before .before .before .before .before .before .before .before .before .before .before .before .before .before .before .before .args .weights)) (now (c .before .before .before .before .before .before .before .before .before .before .before .before .before .before .before .before .before .args .landings))) _ _ _ (c .before .before .before .before .before .before .before .before .before .before .before .item2 .given .1) (c .before .before .before .before .before .before .put-both .ensures .0) (c .before .before .before .before .before .before .put-both .ensures .1 .0) (c .before .before .before .before .before .before .put-both .ensures .1 .1)
+
+same-length-7 : tie.Need-same-length-7
+same-length-7 c = search needs
+
+returns-3 : tie.Need-returns-3
+returns-3 c = landing-written (c .before .before .before .before .before .before .before .before .before .before .before .args .at) (c .before .before .before .before .before .before .before .before .before .before .before .args .item) (tables (now (c .before .before .before .before .before .before .before .before .before .before .before .args .starts)) (now (c .before .before .before .before .before .before .before .before .before .before .before .args .ends)) (now (c .before .before .before .before .before .before .before .before .before .before .before .args .weights)) (now (c .before .before .before .before .before .before .before .before .before .before .before .args .landings))) _ (c .before .before .before .before .before .item3 .given .1) (c .before .before .put-landing .ensures)
+
+pub put-record-spec : {M : Type 1} → statement M
+put-record-spec =
+    tie.close
+    (tie.spec
+    enum-known-item
+    put-arc-requires
+    enum-known-item-2
+    put-both-requires
+    enum-known-item-3
+    put-landing-requires
+    same-length
+    same-length-2
+    same-length-3
+    returns
+    same-length-4
+    same-length-5
+    same-length-6
+    returns-2
+    same-length-7
+    returns-3)

@@ -1,0 +1,125 @@
+-- Which stations a list of records lets be heard, at a site and anywhere: those that it has a landing for.
+-- Assumes nothing.
+use Prim.Native.Nat.{ℕ, _<_, _^_}
+use mathlib.Core.Path.{_≡_, refl, sym, ap, ap₂, subst}
+use mathlib.Core.Logic.{_⊎_, inl, inr}
+use mathlib.Core.Bool.{Bool, true, false, cond}
+use mathlib.Core.List.{List, [], _∷_, List·Memᴰ, List·Memᴰ·head, List·Memᴰ·tail, Memᴰ·cast}
+use lib.Dec.{T, eqb, eqb→eq, eqb-refl}
+use borrow.Author.Tests.{eqb-true, eq-eqb}
+use Rattle.lists.specs.Every.{Every, every-mem}
+use Rattle.subset.specs.Sets.{empty, full, single, has, union}
+use Rattle.subset.specs.Stations.{has-empty, has-single}
+use Rattle.subset.specs.Parts.{part-has, part-union-left, part-union-right, union-has, stations-lt, every-full, full-every}
+use Rattle.sheet.specs.Landings.{terminalsOf, terminalsAt, heardBy, heard}
+use Rattle.sheet.specs.Passed.{RecordOk}
+use Rattle.sheet.specs.declared.record.Record.{Record}
+use Rattle.sheet.specs.declared.record.Record.the-variants.{OneWay, BothWays, Landing}
+
+-- station i has a landing among the records
+abbrev pub Heard : ℕ → List Record → Type 0
+Heard i records = (v : ℕ) × List·Memᴰ (Landing i v) records
+
+-- ---- the sets of the records, put together
+
+module _ (f : Record → ℕ) where
+  -- the stations of every record's set
+  abbrev unions : List Record → ℕ
+  unions [] = empty
+  unions (x ∷ l) = union (f x) (unions l)
+
+  -- a station of it is in the set of one of the records
+  unions-has : (l : List Record) (i : ℕ) → T (has (unions l) i) → (x : Record) × List·Memᴰ x l × T (has (f x) i)
+  unions-has [] i t = absurd (subst T (has-empty i) t)
+  unions-has (x ∷ l) i t = go (unions-has l i) (union-has (f x) (unions l) i t)
+    where
+      go : (T (has (unions l) i) → (y : Record) × List·Memᴰ y l × T (has (f y) i)) → T (has (f x) i) ⊎ T (has (unions l) i)
+          → (y : Record) × List·Memᴰ y (x ∷ l) × T (has (f y) i)
+      go later (inl u) = (x, List·Memᴰ·head refl, u)
+      go later (inr u) = let m = later u in (m .0, List·Memᴰ·tail (m .1), m .2)
+
+  -- and the stations of each record's set are in it
+  has-unions : {x : Record} {l : List Record} (i : ℕ) → List·Memᴰ x l → T (has (f x) i) → T (has (unions l) i)
+  has-unions {x} i (List·Memᴰ·head {x = y} {xs = l} e) t =
+      part-has (f y) (union (f y) (unions l)) (part-union-left (f y) (unions l)) i (subst (λ (z : Record). T (has (f z) i)) e t)
+  has-unions {x} i (List·Memᴰ·tail {x = y} {xs = l} m) t =
+      part-has (unions l) (union (f y) (unions l)) (part-union-right (f y) (unions l)) i (has-unions i m t)
+
+terminalsAt-unions : (l : List Record) (v : ℕ) → terminalsAt l v ≡ unions (λ (x : Record). terminalsOf x v) l
+terminalsAt-unions [] v = refl
+terminalsAt-unions (x ∷ l) v = ap (union (terminalsOf x v)) (terminalsAt-unions l v)
+
+heard-unions : (l : List Record) → heard l ≡ unions heardBy l
+heard-unions [] = refl
+heard-unions (x ∷ l) = ap (union (heardBy x)) (heard-unions l)
+
+-- ---- one record
+
+-- a single station's set
+single-has : (j i : ℕ) → T (has (single j) i) → i ≡ j
+single-has j i t = sym (eqb→eq j i (subst T (has-single j i) t))
+
+has-single-self : (i : ℕ) → T (has (single i) i)
+has-single-self i = subst T (sym (has-single i i)) (eqb-refl i)
+
+-- a record with station i in its set is a landing of i
+heardBy-has : (x : Record) (i : ℕ) → T (has (heardBy x) i) → (v : ℕ) × (Landing i v ≡ x)
+heardBy-has (OneWay start end weight) i t = absurd (subst T (has-empty i) t)
+heardBy-has (BothWays start end weight) i t = absurd (subst T (has-empty i) t)
+heardBy-has (Landing terminal node) i t = (node, ap (λ (j : ℕ). Landing j node) (single-has terminal i t))
+
+-- and with i in its set at site v, a landing of i at v
+terminalsOf-has : (x : Record) (v i : ℕ) → T (has (terminalsOf x v) i) → Landing i v ≡ x
+terminalsOf-has (OneWay start end weight) v i t = absurd (subst T (has-empty i) t)
+terminalsOf-has (BothWays start end weight) v i t = absurd (subst T (has-empty i) t)
+terminalsOf-has (Landing terminal node) v i t = go (eqb node v) refl t
+  where
+    go : (b : Bool) → eqb node v ≡ b → T (has (cond b (single terminal) empty) i) → Landing i v ≡ Landing terminal node
+    go true e u = ap₂ Landing (single-has terminal i u) (sym (eqb-true node v e))
+    go false e u = absurd (subst T (has-empty i) u)
+
+has-terminalsOf : (v i : ℕ) → T (has (terminalsOf (Landing i v) v) i)
+has-terminalsOf v i = rw (eq-eqb v v refl) (has-single-self i)
+
+-- ---- a list of records
+
+-- a station is in a site's set exactly where the records have that landing
+pub landing-has : (records : List Record) (v i : ℕ) → T (has (terminalsAt records v) i) → List·Memᴰ (Landing i v) records
+landing-has records v i t =
+    let m = unions-has (λ (x : Record). terminalsOf x v) records i (subst (λ (w : ℕ). T (has w i)) (terminalsAt-unions records v) t) in
+    Memᴰ·cast (terminalsOf-has (m .0) v i (m .2)) (m .1)
+
+pub has-landing : (records : List Record) (v i : ℕ) → List·Memᴰ (Landing i v) records → T (has (terminalsAt records v) i)
+has-landing records v i m =
+    subst (λ (w : ℕ). T (has w i)) (sym (terminalsAt-unions records v))
+    (has-unions (λ (x : Record). terminalsOf x v) i m (has-terminalsOf v i))
+
+-- a station is among the heard ones exactly where the records have a landing of it
+pub heard-has : (records : List Record) (i : ℕ) → T (has (heard records) i) → Heard i records
+heard-has records i t =
+    let m = unions-has heardBy records i (subst (λ (w : ℕ). T (has w i)) (heard-unions records) t) in
+    let l = heardBy-has (m .0) i (m .2) in
+    (l .0, Memᴰ·cast (l .1) (m .1))
+
+pub has-heard : (records : List Record) (i : ℕ) → Heard i records → T (has (heard records) i)
+has-heard records i l =
+    subst (λ (w : ℕ). T (has w i)) (sym (heard-unions records)) (has-unions heardBy i (l .1) (has-single-self i))
+
+-- ---- records that pass their tests
+
+module _ (n k : ℕ) (records : List Record) where
+  -- a site's set of stations is a set for k stations
+  pub terminalsAt-lt : (v : ℕ) → Every (RecordOk n k) records → terminalsAt records v < 2 ^ k
+  terminalsAt-lt v each =
+      stations-lt k (terminalsAt records v) (λ i t. every-mem (RecordOk n k) each (landing-has records v i t) .0)
+
+  -- and so are the stations with a landing
+  pub heard-lt : Every (RecordOk n k) records → heard records < 2 ^ k
+  heard-lt each = stations-lt k (heard records) (λ i t. every-mem (RecordOk n k) each (heard-has records i t .1) .0)
+
+  -- they are all of them exactly where each station has a landing
+  pub all-heard : Every (RecordOk n k) records → ((i : ℕ) → i < k → Heard i records) → heard records ≡ full k
+  all-heard each every = every-full k (heard records) (heard-lt each) (λ i l. has-heard records i (every i l))
+
+pub heard-all : (k : ℕ) (records : List Record) → heard records ≡ full k → (i : ℕ) → i < k → Heard i records
+heard-all k records e i l = heard-has records i (full-every k (heard records) e i l)

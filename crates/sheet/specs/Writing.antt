@@ -1,0 +1,220 @@
+-- What one record writes into the tables, and that the tables then hold one record more.
+-- Assumes nothing.
+use Prim.Native.Nat.{ℕ, _+_, _≤_, _<_}
+use mathlib.Core.Path.{_≡_, refl, sym, ap, ap₂, _∙_}
+use mathlib.Core.Logic.{_≢_}
+use mathlib.Core.List.{List, [], _∷_, _++_, map, append-assoc, append-nil}
+use native.Mathlib.Omega.{arith}
+use borrow.Author.Tests.{eq-eqb, ne-eqb}
+use lib.Bits.{or-zero-r}
+use lib.ListN.{length, getD, drop, set, replicate, length-append, length-map}
+use Rattle.limits.specs.Limits.{maxTerminals}
+use Rattle.lists.specs.Numbers.{length-values, getD-values, same-values, set-values, constant-values}
+use Rattle.lists.specs.Over.{over, over-more, over-set, over-over, getD-over, length-over}
+use Rattle.subset.specs.Sets.{empty, single, union}
+use Rattle.sheet.specs.Arcs.{Arc, arcsOf, arcs}
+use Rattle.sheet.specs.Landings.{terminalsOf, terminalsAt}
+use Rattle.sheet.specs.Passed.{RecordOk}
+use Rattle.sheet.specs.Reads.{arcs-append, terminalsAt-append}
+use Rattle.sheet.specs.Tables.{Tables, tables, terminalSets, filled, loaded}
+use Rattle.sheet.specs.declared.record.Record.{Record}
+use Rattle.sheet.specs.declared.record.Record.the-variants.{OneWay, BothWays, Landing}
+
+-- ---- what one record writes
+
+-- leg i
+abbrev pub withArc : ℕ → Arc → Tables → Tables
+withArc i a t = tables (set (t .starts) i (a .start)) (set (t .ends) i (a .end)) (set (t .weights) i (a .weight)) (t .landings)
+
+-- the legs from leg i on
+abbrev pub withArcs : ℕ → List Arc → Tables → Tables
+withArcs i [] t = t
+withArcs i (a ∷ list) t = withArcs (i + 1) list (withArc i a t)
+
+-- the station of a landing joins the set of its site
+abbrev pub withLanding : Record → Tables → Tables
+withLanding (OneWay start end weight) t = t
+withLanding (BothWays start end weight) t = t
+withLanding (Landing terminal node) t =
+    tables (t .starts) (t .ends) (t .weights) (set (t .landings) node (union (getD (t .landings) node 0) (single terminal)))
+
+-- a record, where i legs stand in the tables
+abbrev pub withRecord : ℕ → Record → Tables → Tables
+withRecord i x t = withLanding x (withArcs i (arcsOf x) t)
+
+-- the site of a landing is in a table of that length, and the station is one of ten
+abbrev pub LandingFits : Record → ℕ → Type 0
+LandingFits (OneWay start end weight) nodes = Unit {0}
+LandingFits (BothWays start end weight) nodes = Unit {0}
+LandingFits (Landing terminal node) nodes = (node < nodes) × (terminal < maxTerminals)
+
+-- the tables have room for a record after i legs
+pub record Fits (i : ℕ) (x : Record) (t : Tables) : Type 0 where
+  pub starts : i + length (arcsOf x) ≤ length (t .starts)
+  pub ends : i + length (arcsOf x) ≤ length (t .ends)
+  pub weights : i + length (arcsOf x) ≤ length (t .weights)
+  pub landings : LandingFits x (length (t .landings))
+
+-- the tables have room for so many sites and legs
+pub record Long (n arcCount : ℕ) (t : Tables) : Type 0 where
+  pub starts : arcCount ≤ length (t .starts)
+  pub ends : arcCount ≤ length (t .ends)
+  pub weights : arcCount ≤ length (t .weights)
+  pub landings : n ≤ length (t .landings)
+
+-- ---- what the code writes, table by table
+
+module _ (i : ℕ) {start end weight : ℕ} (x : Record) (t : Tables) (starts ends weights : List ℕ) where
+  pub one-way-written : x ≡ OneWay start end weight → starts ≡ set (t .starts) i start → ends ≡ set (t .ends) i end → weights ≡ set (t .weights) i weight
+      → tables starts ends weights (t .landings) ≡ withRecord i x t
+  one-way-written e a b c = (λ j. tables (a j) (b j) (c j) (t .landings)) ∙ ap (λ (y : Record). withRecord i y t) (sym e)
+
+  pub both-ways-written : x ≡ BothWays start end weight → starts ≡ set (set (t .starts) i start) (i + 1) end → ends ≡ set (set (t .ends) i end) (i + 1) start
+      → weights ≡ set (set (t .weights) i weight) (i + 1) weight → tables starts ends weights (t .landings) ≡ withRecord i x t
+  both-ways-written e a b c = (λ j. tables (a j) (b j) (c j) (t .landings)) ∙ ap (λ (y : Record). withRecord i y t) (sym e)
+
+pub landing-written : (i : ℕ) {terminal node : ℕ} (x : Record) (t : Tables) (landings : List ℕ) → x ≡ Landing terminal node
+    → landings ≡ set (t .landings) node (union (getD (t .landings) node 0) (single terminal)) → tables (t .starts) (t .ends) (t .weights) landings ≡ withRecord i x t
+landing-written i x t landings e a = ap (tables (t .starts) (t .ends) (t .weights)) a ∙ ap (λ (y : Record). withRecord i y t) (sym e)
+
+-- ---- the tables then hold one record more
+
+-- one column of the legs
+column-more : (f : Arc → ℕ) (list : List Arc) (a : Arc) (old : List ℕ) → length list < length old
+    → set (over (map f list) old) (length list) (f a) ≡ over (map f (list ++ (a ∷ []))) old
+column-more f list a old h =
+    ap (λ (i : ℕ). set (over (map f list) old) i (f a)) (sym (length-map list f))
+    ∙ over-more (map f list) old (f a) (omega (arith, length-map list f))
+    ∙ ap (λ (l : List ℕ). over l old) (sym (map-more list))
+  where
+    map-more : (l : List Arc) → map f (l ++ (a ∷ [])) ≡ map f l ++ (f a ∷ [])
+    map-more [] = refl
+    map-more (b ∷ l) = ap (λ (m : List ℕ). f b ∷ m) (map-more l)
+
+-- one leg
+arc-more : (list : List Arc) (a : Arc) (sets : List ℕ) (n : ℕ) (t : Tables) → Long n (length list + 1) t
+    → withArc (length list) a (filled list sets t) ≡ filled (list ++ (a ∷ [])) sets t
+arc-more list a sets n t l =
+    λ i. record {
+      starts = column-more (λ b. b .start) list a (t .starts) (omega (arith, l .starts)) i;
+      ends = column-more (λ b. b .end) list a (t .ends) (omega (arith, l .ends)) i;
+      weights = column-more (λ b. b .weight) list a (t .weights) (omega (arith, l .weights)) i;
+      landings = over sets (t .landings);
+    }
+
+-- several legs
+arcs-more : (bs list : List Arc) (sets : List ℕ) (n : ℕ) (t : Tables) → Long n (length list + length bs) t
+    → withArcs (length list) bs (filled list sets t) ≡ filled (list ++ bs) sets t
+arcs-more [] list sets n t l = ap (λ (list' : List Arc). filled list' sets t) (sym (append-nil list))
+arcs-more (b ∷ bs) list sets n t l =
+    let more : length (list ++ (b ∷ [])) ≡ length list + 1 = length-append list (b ∷ []) in
+    ap₂ (λ (i : ℕ) (t' : Tables). withArcs i bs t') (sym more)
+    (arc-more list b sets n t (record { starts = omega (arith, l .starts); ends = omega (arith, l .ends); weights = omega (arith, l .weights); landings = l .landings }))
+    ∙ arcs-more bs (list ++ (b ∷ [])) sets n t
+    (record { starts = omega (arith, more, l .starts); ends = omega (arith, more, l .ends); weights = omega (arith, more, l .weights); landings = l .landings })
+    ∙ ap (λ (list' : List Arc). filled list' sets t) (append-assoc list (b ∷ []) bs)
+
+-- a link leaves the sets of stations as they are
+sets-link : (n : ℕ) (records : List Record) (x : Record) → ((v : ℕ) → terminalsOf x v ≡ empty) → terminalSets n (records ++ (x ∷ [])) ≡ terminalSets n records
+sets-link n records x e =
+    same-values (terminalsAt (records ++ (x ∷ []))) (terminalsAt records) n
+    (λ v h. terminalsAt-append records (x ∷ []) v ∙ ap (λ (w : ℕ). union (terminalsAt records v) (union w empty)) (e v) ∙ or-zero-r (terminalsAt records v))
+
+-- a landing joins the set of its site
+terminals-more : (records : List Record) (x : Record) (v : ℕ) → terminalsAt (records ++ (x ∷ [])) v ≡ union (terminalsAt records v) (terminalsOf x v)
+terminals-more records x v = terminalsAt-append records (x ∷ []) v ∙ ap (union (terminalsAt records v)) (or-zero-r (terminalsOf x v))
+
+sets-landing : (n terminal node : ℕ) (records : List Record) → node < n
+    → set (terminalSets n records) node (union (terminalsAt records node) (single terminal)) ≡ terminalSets n (records ++ (Landing terminal node ∷ []))
+sets-landing n terminal node records h =
+    ap (set (terminalSets n records) node) (sym here)
+    ∙ set-values (terminalsAt records) (terminalsAt (records ++ (Landing terminal node ∷ []))) n node h elsewhere
+  where
+    here : terminalsAt (records ++ (Landing terminal node ∷ [])) node ≡ union (terminalsAt records node) (single terminal)
+    here = terminals-more records (Landing terminal node) node ∙ rw (eq-eqb node node refl)
+
+    elsewhere : (v : ℕ) → v ≢ node → terminalsAt records v ≡ terminalsAt (records ++ (Landing terminal node ∷ [])) v
+    elsewhere v ne = sym (terminals-more records (Landing terminal node) v ∙ rw (ne-eqb node v (λ e. ne (sym e))) (or-zero-r (terminalsAt records v)))
+
+arcs-one : (records : List Record) (x : Record) → arcs (records ++ (x ∷ [])) ≡ arcs records ++ arcsOf x
+arcs-one records x = arcs-append records (x ∷ []) ∙ ap (λ (l : List Arc). arcs records ++ l) (append-nil (arcsOf x))
+
+module _ (n : ℕ) (records : List Record) (t : Tables) where
+  link-more : (x : Record) → ((v : ℕ) → terminalsOf x v ≡ empty) → Long n (length (arcs (records ++ (x ∷ [])))) t
+      → withArcs (length (arcs records)) (arcsOf x) (loaded n records t) ≡ loaded n (records ++ (x ∷ [])) t
+  unfolding loaded
+  link-more x e l =
+      let count : length (arcs (records ++ (x ∷ []))) ≡ length (arcs records) + length (arcsOf x) = ap length (arcs-one records x) ∙ length-append (arcs records) (arcsOf x) in
+      arcs-more (arcsOf x) (arcs records) (terminalSets n records) n t
+      (record { starts = omega (arith, count, l .starts); ends = omega (arith, count, l .ends); weights = omega (arith, count, l .weights); landings = l .landings })
+      ∙ ap₂ (λ (list : List Arc) (sets : List ℕ). filled list sets t) (sym (arcs-one records x)) (sym (sets-link n records x e))
+
+  landing-more : (terminal node : ℕ) → node < n
+      → set (over (terminalSets n records) (t .landings)) node (union (getD (over (terminalSets n records) (t .landings)) node 0) (single terminal))
+      ≡ over (terminalSets n (records ++ (Landing terminal node ∷ []))) (t .landings)
+  landing-more terminal node h =
+      let sets : List ℕ = terminalSets n records in
+      let b : node < length sets = omega (arith, length-values (terminalsAt records) 0 n) in
+      let w : getD (over sets (t .landings)) node 0 ≡ terminalsAt records node = getD-over sets (t .landings) node 0 b ∙ getD-values (terminalsAt records) 0 n node 0 h ∙ ap (terminalsAt records) (omega arith) in
+      ap (λ (x : ℕ). set (over sets (t .landings)) node (union x (single terminal))) w
+      ∙ over-set sets (t .landings) node (union (terminalsAt records node) (single terminal)) b
+      ∙ ap (λ (l : List ℕ). over l (t .landings)) (sets-landing n terminal node records h)
+
+  -- one record more
+  pub loaded-more : (k : ℕ) (x : Record) → RecordOk n k x → Long n (length (arcs (records ++ (x ∷ [])))) t
+      → withRecord (length (arcs records)) x (loaded n records t) ≡ loaded n (records ++ (x ∷ [])) t
+  unfolding loaded
+  loaded-more k (OneWay start end weight) ok l = link-more (OneWay start end weight) (λ v. refl) l
+  loaded-more k (BothWays start end weight) ok l = link-more (BothWays start end weight) (λ v. refl) l
+  loaded-more k (Landing terminal node) ok l =
+      λ i. record {
+        starts = over (map (λ a. a .start) (sym same i)) (t .starts);
+        ends = over (map (λ a. a .end) (sym same i)) (t .ends);
+        weights = over (map (λ a. a .weight) (sym same i)) (t .weights);
+        landings = landing-more terminal node (ok .1) i;
+      }
+    where
+      same : arcs (records ++ (Landing terminal node ∷ [])) ≡ arcs records
+      same = arcs-one records (Landing terminal node) ∙ append-nil (arcs records)
+
+  -- no record yet: the first n sets are empty, and nothing else is written
+  pub loaded-none : loaded n [] t ≡ tables (t .starts) (t .ends) (t .weights) (replicate n 0 ++ drop n (t .landings))
+  unfolding loaded
+  loaded-none =
+      λ i. record {
+        starts = t .starts;
+        ends = t .ends;
+        weights = t .weights;
+        landings = (ap₂ (λ (l : List ℕ) (m : ℕ). l ++ drop m (t .landings)) (constant-values n 0) (length-values (λ v. 0) 0 n)) i;
+      }
+
+  -- what stood in the first entries before makes no difference
+  pub loaded-anew : loaded n records (loaded n [] t) ≡ loaded n records t
+  unfolding loaded
+  loaded-anew =
+      λ i. record {
+        starts = over (map (λ a. a .start) (arcs records)) (t .starts);
+        ends = over (map (λ a. a .end) (arcs records)) (t .ends);
+        weights = over (map (λ a. a .weight) (arcs records)) (t .weights);
+        landings = over-over (terminalSets n records) (terminalSets n []) (t .landings) (length-values (terminalsAt []) 0 n ∙ sym (length-values (terminalsAt records) 0 n)) i;
+      }
+
+-- the tables stay as long as they were
+pub record SameLengths (t' t : Tables) : Type 0 where
+  pub starts : length (t' .starts) ≡ length (t .starts)
+  pub ends : length (t' .ends) ≡ length (t .ends)
+  pub weights : length (t' .weights) ≡ length (t .weights)
+  pub landings : length (t' .landings) ≡ length (t .landings)
+
+pub loaded-lengths : (n : ℕ) (records : List Record) (t : Tables) → Long n (length (arcs records)) t → SameLengths (loaded n records t) t
+unfolding loaded
+loaded-lengths n records t l =
+    record {
+      starts = column (λ a. a .start) (t .starts) (l .starts);
+      ends = column (λ a. a .end) (t .ends) (l .ends);
+      weights = column (λ a. a .weight) (t .weights) (l .weights);
+      landings = length-over (terminalSets n records) (t .landings) (omega (arith, length-values (terminalsAt records) 0 n, l .landings));
+    }
+  where
+    column : (f : Arc → ℕ) (old : List ℕ) → length (arcs records) ≤ length old → length (over (map f (arcs records)) old) ≡ length old
+    column f old h = length-over (map f (arcs records)) old (omega (arith, length-map (arcs records) f))
