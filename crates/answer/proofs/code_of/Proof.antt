@@ -1,5 +1,8 @@
 -- `answer::code_of` meets its contract. Each family's number and place are those that its own function gives.
 -- Assumes nothing.
+use mathlib.Core.Path.{_≡_, sym, subst}
+use Rattle.answer.specs.Stated.{refused, familyOf, statedRefusal}
+use Rattle.answer.specs.declared.Refusal.{Refusal}
 use borrow.Author.Needs.{needs}
 use Rattle.answer.proofs.code_of.Statement.{statement}
 use Rattle.answer.proofs.code_of.Tie as tie
@@ -29,16 +32,16 @@ plan-code-requires : tie.Need-plan-code-requires
 plan-code-requires c κs = search needs
 
 returns : tie.Need-returns
-returns c = cc
+returns c = subst (λ (r : Refusal). refused (familyOf r) (c .sheet-code .result .number) (c .sheet-code .result .place) ≡ statedRefusal r) (sym (c .before .before .refusal .given .1)) (c .sheet-code .ensures)
 
 returns-2 : tie.Need-returns-2
-returns-2 c = cc
+returns-2 c = subst (λ (r : Refusal). refused (familyOf r) (c .table-code .result .number) (c .table-code .result .place) ≡ statedRefusal r) (sym (c .before .before .refusal2 .given .1)) (c .table-code .ensures)
 
 returns-3 : tie.Need-returns-3
-returns-3 c = cc
+returns-3 c = subst (λ (r : Refusal). refused (familyOf r) (c .search-code .result .number) (c .search-code .result .place) ≡ statedRefusal r) (sym (c .before .before .refusal3 .given .1)) (c .search-code .ensures)
 
 returns-4 : tie.Need-returns-4
-returns-4 c = cc
+returns-4 c = subst (λ (r : Refusal). refused (familyOf r) (c .plan-code .result .number) (c .plan-code .result .place) ≡ statedRefusal r) (sym (c .before .before .refusal4 .given .1)) (c .plan-code .ensures)
 
 pub code-of-spec : {M : Type 1} → statement M
 code-of-spec =

@@ -1,5 +1,7 @@
 -- `answer::plan_code` meets its contract. Each case's number and place are those stated of it.
 -- Assumes nothing.
+use mathlib.Core.Path.{_≡_, sym, ap}
+use Rattle.answer.specs.Stated.{statedPlanFile}
 use borrow.Author.Needs.{needs}
 use Rattle.answer.proofs.plan_code.Statement.{statement}
 use Rattle.answer.proofs.plan_code.Tie as tie
@@ -23,22 +25,22 @@ enum-told-4 : tie.Need-enum-told-4
 enum-told-4 c = search needs
 
 returns : tie.Need-returns
-returns c = cc
+returns c = ap statedPlanFile (sym (c .enum-told .given .1))
 
 returns-2 : tie.Need-returns-2
-returns-2 c = cc
+returns-2 c = ap statedPlanFile (sym (c .before .fault .given .1))
 
 returns-3 : tie.Need-returns-3
-returns-3 c = cc
+returns-3 c = ap statedPlanFile (sym (c .before .fault2 .given .1))
 
 returns-4 : tie.Need-returns-4
-returns-4 c = cc
+returns-4 c = ap statedPlanFile (sym (c .enum-told2 .given .1))
 
 returns-5 : tie.Need-returns-5
-returns-5 c = cc
+returns-5 c = ap statedPlanFile (sym (c .enum-told3 .given .1))
 
 returns-6 : tie.Need-returns-6
-returns-6 c = cc
+returns-6 c = ap statedPlanFile (sym (c .enum-told4 .given .1))
 
 pub plan-code-spec : {M : Type 1} → statement M
 plan-code-spec =

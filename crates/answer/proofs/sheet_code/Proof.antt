@@ -1,5 +1,7 @@
 -- `answer::sheet_code` meets its contract. Each case's number and place are those stated of it.
 -- Assumes nothing.
+use mathlib.Core.Path.{_≡_, sym, ap}
+use Rattle.answer.specs.Stated.{statedSheet}
 use borrow.Author.Needs.{needs}
 use Rattle.answer.proofs.sheet_code.Statement.{statement}
 use Rattle.answer.proofs.sheet_code.Tie as tie
@@ -35,34 +37,34 @@ enum-known-fault-10 : tie.Need-enum-known-fault-10
 enum-known-fault-10 c = search needs
 
 returns : tie.Need-returns
-returns c = cc
+returns c = ap statedSheet (sym (c .before .fault .given .1))
 
 returns-2 : tie.Need-returns-2
-returns-2 c = cc
+returns-2 c = ap statedSheet (sym (c .before .fault2 .given .1))
 
 returns-3 : tie.Need-returns-3
-returns-3 c = cc
+returns-3 c = ap statedSheet (sym (c .before .fault3 .given .1))
 
 returns-4 : tie.Need-returns-4
-returns-4 c = cc
+returns-4 c = ap statedSheet (sym (c .before .fault4 .given .1))
 
 returns-5 : tie.Need-returns-5
-returns-5 c = cc
+returns-5 c = ap statedSheet (sym (c .before .fault5 .given .1))
 
 returns-6 : tie.Need-returns-6
-returns-6 c = cc
+returns-6 c = ap statedSheet (sym (c .before .fault6 .given .1))
 
 returns-7 : tie.Need-returns-7
-returns-7 c = cc
+returns-7 c = ap statedSheet (sym (c .before .fault7 .given .1))
 
 returns-8 : tie.Need-returns-8
-returns-8 c = cc
+returns-8 c = ap statedSheet (sym (c .before .fault8 .given .1))
 
 returns-9 : tie.Need-returns-9
-returns-9 c = cc
+returns-9 c = ap statedSheet (sym (c .before .fault9 .given .1))
 
 returns-10 : tie.Need-returns-10
-returns-10 c = cc
+returns-10 c = ap statedSheet (sym (c .before .fault10 .given .1))
 
 pub sheet-code-spec : {M : Type 1} → statement M
 sheet-code-spec =
