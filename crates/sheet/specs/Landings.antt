@@ -1,10 +1,10 @@
 -- The landings of a sheet: each site's set of stations, and the stations that are heard at all. A repeat counts once.
 -- Assumes nothing.
-use Prim.Native.Nat.{ℕ, _%_, _^_}
+use Prim.Native.Nat.{ℕ}
 use mathlib.Core.Bool.{cond}
-use mathlib.Core.List.{List, [], _∷_}
+use mathlib.Core.List.{List, [], _∷_, map}
 use lib.Dec.{eqb}
-use Rattle.limits.specs.Limits.{maxTerminals}
+use Rattle.lists.specs.Numbers.{numbers}
 use Rattle.subset.specs.Sets.{empty, single, union}
 use Rattle.sheet.specs.declared.record.Record.{Record}
 use Rattle.sheet.specs.declared.record.Record.the-variants.{OneWay, BothWays, Landing}
@@ -31,6 +31,6 @@ abbrev pub heard : List Record → ℕ
 heard [] = empty
 heard (r ∷ rs) = union (heardBy r) (heard rs)
 
--- what an entry of the landing table says of its site: the stations are its lowest ten bits
-abbrev pub terminalsIn : ℕ → ℕ
-terminalsIn entry = entry % 2 ^ maxTerminals
+-- each site's set of stations, by site
+abbrev pub terminalSets : ℕ → List Record → List ℕ
+terminalSets n records = map (terminalsAt records) (numbers 0 n)

@@ -6,7 +6,7 @@ use mathlib.Core.List.{List, [], _∷_}
 use Rattle.answer.specs.Stated.{Stated, refused, ofSheet, statedSheet}
 use Rattle.sheet.specs.Arcs.{Arc, arc, arcs}
 use Rattle.sheet.specs.Verdict.{Verdict, good, bad, verdict, readFor}
-use Rattle.sheet.specs.Tables.{terminalSets}
+use Rattle.sheet.specs.Landings.{terminalSets}
 
 -- `HD` 4 3; `LK` 0 1 4; `LK` 1 2 3; `LK` 1 3 3; `LK` 0 2 5; `LK` 0 3 6; `ST` 0 2; `ST` 1 3; `ST` 2 0; `ED`
 abbrev pub sheetA : List ℕ

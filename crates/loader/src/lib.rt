@@ -1,12 +1,12 @@
 // The loading of a sheet into the lent tables: leg starts, leg ends, leg prices, landing sets.
-use crate::judge::Judged;
-use crate::judge::judge;
-use crate::reading::Opening;
-use crate::reading::Reading;
-use crate::reading::Step;
-use crate::record::Record;
 use answer::Refusal;
 use answer::TableFault;
+use sheet::judge::Judged;
+use sheet::judge::judge;
+use sheet::reading::Opening;
+use sheet::reading::Reading;
+use sheet::reading::Step;
+use sheet::record::Record;
 use subset::Subset;
 ghost use mathlib.Core.Path.{_≡_};
 ghost use mathlib.Core.List.{_++_};
@@ -14,12 +14,11 @@ ghost use Prim.Native.Nat.{_+_, _≤_, _<_};
 ghost use lib.ListN.{length, getD, drop, set, replicate};
 ghost use Rattle.limits.specs.Limits.{maxTerminals};
 ghost use Rattle.subset.specs.Sets.{union, single};
-ghost use Rattle.sheet.specs.Landings.{terminalsIn};
-ghost use Rattle.sheet.specs.Tables.{tables, longEnough, loadedBy, outcome, loadingOf};
-ghost use Rattle.sheet.specs.Loading.{Loadable, Loading};
-ghost use Rattle.sheet.specs.Writing.{Fits, withRecord};
+ghost use Rattle.loader.specs.Tables.{tables, terminalsIn, longEnough, loadedBy, outcome, loadingOf};
+ghost use Rattle.loader.specs.Loading.{Loadable, Loading};
+ghost use Rattle.loader.specs.Writing.{Fits, withRecord};
 ghost use Rattle.sheet.specs.Underway.{Underway};
 ghost use Rattle.sheet.specs.Verdict.{verdict};
 
 // What a loading gives: the sites, stations and number of legs of the sheet that the tables now hold, or the refusal.
 pub enum Loaded {

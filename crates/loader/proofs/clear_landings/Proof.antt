@@ -1,4 +1,4 @@
--- `sheet::load::clear_landings` meets its contract. The loop's invariant: the first v sets are empty. The measure is the number of sets left.
+-- `loader::clear_landings` meets its contract. The loop's invariant: the first v sets are empty. The measure is the number of sets left.
 -- Assumes nothing.
 use Prim.Native.Nat.{_≤_, _-_}
 use mathlib.Core.Path.{_≡_}
@@ -8,8 +8,8 @@ use lib.ListN.{length, replicate, drop, length-set}
 use denote.Ref.{now}
 use borrow.Author.Needs.{needs}
 use borrow.Author.Fill.{fill-none, fill-more}
-use Rattle.sheet.proofs.load.clear_landings.Statement.{statement}
-use Rattle.sheet.proofs.load.clear_landings.Tie as tie
+use Rattle.loader.proofs.clear_landings.Statement.{statement}
+use Rattle.loader.proofs.clear_landings.Tie as tie
 
 abbrev Inv-loop : tie.InvT-loop
 Inv-loop landings₀ n v₀ landings v = (v ≤ n) × (length landings ≡ length landings₀) × (landings ≡ replicate v 0 ++ drop v landings₀)

@@ -1,16 +1,16 @@
--- `sheet::load::load` meets its contract. After the head the sets are cleared, and the tables hold no record yet.
+-- `loader::load` meets its contract. After the head the sets are cleared, and the tables hold no record yet.
 -- Assumes nothing.
 use Prim.Native.Nat.{ℕ}
 use mathlib.Core.Path.{_≡_, sym, ap, _∙_, subst}
 use mathlib.Core.List.{List}
 use denote.Ref.{now}
 use Rattle.sheet.specs.Verdict.{Verdict, verdict}
-use Rattle.sheet.specs.Tables.{tables, loadedBy}
+use Rattle.loader.specs.Tables.{tables, loadedBy}
 use Rattle.sheet.specs.Underway.{not-opened}
-use Rattle.sheet.specs.Loading.{Loading, nodes-fit, loading-opened, loaded-cleared}
+use Rattle.loader.specs.Loading.{Loading, nodes-fit, loading-opened, loaded-cleared}
 use borrow.Author.Needs.{needs}
-use Rattle.sheet.proofs.load.load.Statement.{statement}
-use Rattle.sheet.proofs.load.load.Tie as tie
+use Rattle.loader.proofs.load.Statement.{statement}
+use Rattle.loader.proofs.load.Tie as tie
 
 begin-requires : tie.Need-begin-requires
 begin-requires c κs = search needs

@@ -1,14 +1,14 @@
--- `sheet::load::put_record` meets its contract. The tables have room for the record's legs and landing, and each table is what the record writes.
+-- `loader::put_record` meets its contract. The tables have room for the record's legs and landing, and each table is what the record writes.
 -- Assumes nothing.
 use mathlib.Core.Path.{_≡_, subst}
 use native.Mathlib.Omega.{arith}
 use denote.Ref.{now}
-use Rattle.sheet.specs.Tables.{tables}
-use Rattle.sheet.specs.Writing.{Fits, one-way-written, both-ways-written, landing-written}
+use Rattle.loader.specs.Tables.{tables}
+use Rattle.loader.specs.Writing.{Fits, one-way-written, both-ways-written, landing-written}
 use Rattle.sheet.specs.declared.record.Record.{Record}
 use borrow.Author.Needs.{needs}
-use Rattle.sheet.proofs.load.put_record.Statement.{statement}
-use Rattle.sheet.proofs.load.put_record.Tie as tie
+use Rattle.loader.proofs.put_record.Statement.{statement}
+use Rattle.loader.proofs.put_record.Tie as tie
 
 enum-known-item : tie.Need-enum-known-item
 enum-known-item c = search needs

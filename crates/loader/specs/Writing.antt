@@ -12,13 +12,13 @@ use Rattle.limits.specs.Limits.{maxTerminals}
 use Rattle.lists.specs.Numbers.{length-values, getD-values, same-values, set-values, constant-values}
 use Rattle.lists.specs.Over.{over, over-more, over-set, over-over, getD-over, length-over}
 use Rattle.subset.specs.Sets.{empty, single, union}
 use Rattle.sheet.specs.Arcs.{Arc, arcsOf, arcs}
-use Rattle.sheet.specs.Landings.{terminalsOf, terminalsAt}
+use Rattle.sheet.specs.Landings.{terminalsOf, terminalsAt, terminalSets}
 use Rattle.sheet.specs.Passed.{RecordOk}
 use Rattle.sheet.specs.Reads.{arcs-append, terminalsAt-append}
-use Rattle.sheet.specs.Tables.{Tables, tables, terminalSets, filled, loaded}
+use Rattle.loader.specs.Tables.{Tables, tables, filled, loaded}
 use Rattle.sheet.specs.declared.record.Record.{Record}
 use Rattle.sheet.specs.declared.record.Record.the-variants.{OneWay, BothWays, Landing}
 
 -- ---- what one record writes
 

@@ -1,8 +1,8 @@
--- `sheet::load::long_enough` meets its contract. Each return has the tests that led to it.
+-- `loader::long_enough` meets its contract. Each return has the tests that led to it.
 -- Assumes nothing.
 use borrow.Author.Tests.{le-leb, lt-leb}
-use Rattle.sheet.proofs.load.long_enough.Statement.{statement}
-use Rattle.sheet.proofs.load.long_enough.Tie as tie
+use Rattle.loader.proofs.long_enough.Statement.{statement}
+use Rattle.loader.proofs.long_enough.Tie as tie
 
 returns : tie.Need-returns
 returns c = simp (lt-leb _ _ (c .if1 .taken))

@@ -12,22 +12,22 @@ use Rattle.limits.specs.Limits.{maxTerminals}
 use Rattle.answer.specs.declared.SheetFault.{SheetFault}
 use Rattle.answer.specs.declared.TableFault.the-variants.{ShortTables}
 use Rattle.answer.specs.declared.Refusal.the-variants.{Sheet as OfSheet, Tables as OfTables}
 use Rattle.sheet.specs.Records.{headSize}
 use Rattle.sheet.specs.Arcs.{arcsOf, arcs}
 use Rattle.sheet.specs.Verdict.{Verdict, good, bad, sizes, openingOf, stepOf, verdict}
 use Rattle.sheet.specs.Passed.{RecordOk}
 use Rattle.sheet.specs.Reads.{arcs-append, Extends, reading-extends}
-use Rattle.sheet.specs.Tables.{Tables, tables, areLong, loaded, loadedBy, Outcome, outcome, afterVerdict, loadingOf}
-use Rattle.sheet.specs.Writing.{withRecord, LandingFits, Fits, Long, SameLengths, loaded-lengths, loaded-more, loaded-none, loaded-anew}
+use Rattle.loader.specs.Tables.{Tables, tables, areLong, loaded, loadedBy, Outcome, outcome, afterVerdict, loadingOf}
+use Rattle.loader.specs.Writing.{withRecord, LandingFits, Fits, Long, SameLengths, loaded-lengths, loaded-more, loaded-none, loaded-anew}
 use Rattle.sheet.specs.Underway.{Underway, Went, went, underway-opened, underway-next, ended, stopped}
 use Rattle.sheet.specs.Judged.{judgedOf}
 use Rattle.sheet.specs.declared.record.Record.{Record}
 use Rattle.sheet.specs.declared.record.Record.the-variants.{OneWay, BothWays, Landing}
 use Rattle.sheet.specs.declared.reading.Reading.{Reading}
 use Rattle.sheet.specs.declared.reading.Opening.the-variants.{Head as Opened}
 use Rattle.sheet.specs.declared.reading.Step.the-variants.{Next, End as Ended, Fault as Stopped}
 use Rattle.sheet.specs.declared.judge.Judged.the-variants.{Good, Fault}
-use Rattle.sheet.specs.declared.load.Loaded.the-variants.{Sheet, Refused}
+use Rattle.loader.specs.declared.Loaded.the-variants.{Sheet, Refused}
 
 -- a good sheet, with tables that are long enough for it
 pub record Loadable (s : List ℕ) (t : Tables) : Type 0 where

@@ -1,20 +1,20 @@
 -- The lent tables that a sheet is loaded into: how long they must be, and what they hold afterwards.
 -- Assumes nothing.
-use Prim.Native.Nat.{ℕ}
+use Prim.Native.Nat.{ℕ, _%_, _^_}
 use mathlib.Core.Bool.{Bool, cond, _&&_}
 use mathlib.Core.List.{List, map}
 use lib.ListN.{length}
 use lib.Dec.{leb}
-use Rattle.lists.specs.Numbers.{numbers}
+use Rattle.limits.specs.Limits.{maxTerminals}
 use Rattle.lists.specs.Over.{over}
 use Rattle.sheet.specs.Arcs.{Arc, arcs}
-use Rattle.sheet.specs.Landings.{terminalsAt}
+use Rattle.sheet.specs.Landings.{terminalSets}
 use Rattle.sheet.specs.Verdict.{Verdict, good, bad, verdict}
 use Rattle.answer.specs.declared.TableFault.the-variants.{ShortTables}
 use Rattle.answer.specs.declared.Refusal.the-variants.{Sheet as OfSheet, Tables as OfTables}
 use Rattle.sheet.specs.declared.record.Record.{Record}
-use Rattle.sheet.specs.declared.load.Loaded.{Loaded}
-use Rattle.sheet.specs.declared.load.Loaded.the-variants.{Sheet, Refused}
+use Rattle.loader.specs.declared.Loaded.{Loaded}
+use Rattle.loader.specs.declared.Loaded.the-variants.{Sheet, Refused}
 
 -- leg starts, leg ends, leg prices, landing sets
 pub record Tables : Type 0 where
@@ -26,16 +26,16 @@ pub record Tables : Type 0 where
 abbrev pub tables : List ℕ → List ℕ → List ℕ → List ℕ → Tables
 tables starts ends weights landings = record { starts = starts; ends = ends; weights = weights; landings = landings }
 
+-- what an entry of the landing sets says of its site: the stations are its lowest ten bits
+abbrev pub terminalsIn : ℕ → ℕ
+terminalsIn entry = entry % 2 ^ maxTerminals
+
 -- tables of these lengths are long enough: each has at least the length stated for it, the number of legs or n
 abbrev pub longEnough : (n arcCount starts ends weights landings : ℕ) → Bool
 longEnough n arcCount starts ends weights landings = leb arcCount starts && leb arcCount ends && leb arcCount weights && leb n landings
 
 abbrev pub areLong : ℕ → ℕ → Tables → Bool
 areLong n arcCount t = longEnough n arcCount (length (t .starts)) (length (t .ends)) (length (t .weights)) (length (t .landings))
-
--- each site's set of stations, by site
-abbrev pub terminalSets : ℕ → List Record → List ℕ
-terminalSets n records = map (terminalsAt records) (numbers 0 n)
 
 -- the first entries hold these legs in order and these sets of stations; later entries are untouched
 abbrev pub filled : List Arc → List ℕ → Tables → Tables

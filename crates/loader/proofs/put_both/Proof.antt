@@ -1,12 +1,12 @@
--- `sheet::load::put_both` meets its contract. The second leg is written after the first.
+-- `loader::put_both` meets its contract. The second leg is written after the first.
 -- Assumes nothing.
 use Prim.Native.Nat.{ℕ, _+_}
 use mathlib.Core.Path.{_≡_, ap, _∙_}
 use mathlib.Core.List.{List}
 use lib.ListN.{set}
 use borrow.Author.Needs.{needs}
-use Rattle.sheet.proofs.load.put_both.Statement.{statement}
-use Rattle.sheet.proofs.load.put_both.Tie as tie
+use Rattle.loader.proofs.put_both.Statement.{statement}
+use Rattle.loader.proofs.put_both.Tie as tie
 
 put-arc-requires : tie.Need-put-arc-requires
 put-arc-requires c κs = search needs

@@ -1,12 +1,12 @@
--- `sheet::load::load_sheet` meets its contract. The sheet is judged, the lengths are tested, and the tables are loaded.
+-- `loader::load_sheet` meets its contract. The sheet is judged, the lengths are tested, and the tables are loaded.
 -- Assumes nothing.
 use mathlib.Core.Path.{_≡_, sym, _∙_}
 use denote.Ref.{now}
-use Rattle.sheet.specs.Tables.{tables}
-use Rattle.sheet.specs.Loading.{loadable-tested, loaded-whole, refused-short, refused-sheet}
+use Rattle.loader.specs.Tables.{tables}
+use Rattle.loader.specs.Loading.{loadable-tested, loaded-whole, refused-short, refused-sheet}
 use borrow.Author.Needs.{needs}
-use Rattle.sheet.proofs.load.load_sheet.Statement.{statement}
-use Rattle.sheet.proofs.load.load_sheet.Tie as tie
+use Rattle.loader.proofs.load_sheet.Statement.{statement}
+use Rattle.loader.proofs.load_sheet.Tie as tie
 
 judge-requires : tie.Need-judge-requires
 judge-requires c κs = search needs

@@ -1,15 +1,15 @@
--- `sheet::load::load_records` meets its contract. The loop's invariant: the tables hold the records that have been read. The measure is the number of bytes left.
+-- `loader::load_records` meets its contract. The loop's invariant: the tables hold the records that have been read. The measure is the number of bytes left.
 -- Assumes nothing.
 use Prim.Native.Nat.{_-_}
 use mathlib.Core.Path.{_≡_, refl, sym, _∙_}
 use lib.ListN.{length}
 use denote.Ref.{now}
 use borrow.Author.Needs.{needs}
-use Rattle.sheet.specs.Tables.{tables}
+use Rattle.loader.specs.Tables.{tables}
 use Rattle.sheet.specs.Underway.{ready, falls}
-use Rattle.sheet.specs.Loading.{Loading, loading-fits, loading-next, loading-end, loading-fault}
-use Rattle.sheet.proofs.load.load_records.Statement.{statement}
-use Rattle.sheet.proofs.load.load_records.Tie as tie
+use Rattle.loader.specs.Loading.{Loading, loading-fits, loading-next, loading-end, loading-fault}
+use Rattle.loader.proofs.load_records.Statement.{statement}
+use Rattle.loader.proofs.load_records.Tie as tie
 
 abbrev Inv-loop : tie.InvT-loop
 Inv-loop sheet starts₀ ends₀ weights₀ landings₀ state₀ starts ends weights landings state = Loading sheet (tables starts₀ ends₀ weights₀ landings₀) state (tables starts ends weights landings) × (length starts ≡ length starts₀) × (length ends ≡ length ends₀) × (length weights ≡ length weights₀) × (length landings ≡ length landings₀)

@@ -1,4 +1,4 @@
--- `sheet::load::put_landing` meets its contract. The set that joins is that of the station alone.
+-- `loader::put_landing` meets its contract. The set that joins is that of the station alone.
 -- Assumes nothing.
 use Prim.Native.Nat.{ℕ}
 use mathlib.Core.Path.{_≡_, ap}
@@ -6,8 +6,8 @@ use lib.ListN.{set, getD}
 use denote.Ref.{now}
 use Rattle.subset.specs.Sets.{union}
 use borrow.Author.Needs.{needs}
-use Rattle.sheet.proofs.load.put_landing.Statement.{statement}
-use Rattle.sheet.proofs.load.put_landing.Tie as tie
+use Rattle.loader.proofs.put_landing.Statement.{statement}
+use Rattle.loader.proofs.put_landing.Tie as tie
 
 single-requires : tie.Need-single-requires
 single-requires c κs = search needs
