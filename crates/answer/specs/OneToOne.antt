@@ -4,7 +4,7 @@ use Prim.Native.Nat.{ℕ}
 use mathlib.Core.Path.{_≡_, refl, sym, ap, _∙_}
 use mathlib.Core.Bool.{cond}
 use lib.Dec.{eqb}
-use Rattle.limits.specs.Refusals.{shortSheet, strangeMark, badHead, noSuchSite, noSuchStation, loop, badPrice, tooManyLegs, afterTheEnd, unheard, shortTables, noPlan, shortBuffer, cutPlan, badPlan, unknownNumber, noTree, stationMissed, falseTotal}
+use Rattle.limits.specs.Refusals.{shortSheet, strangeMark, badHead, noSuchSite, noSuchStation, loop, badPrice, tooManyLegs, afterTheEnd, unheard, shortTables, noPlan, shortBuffer, cutPlan, badPlan, unknownNumber, noTree, stationMissed}
 use Rattle.answer.specs.declared.SheetFault.the-variants.{ShortSheet, StrangeMark, BadHead, NoSuchSite, NoSuchStation, Loop, BadPrice, TooManyLegs, AfterTheEnd, Unheard}
 use Rattle.answer.specs.declared.TableFault.the-variants.{ShortTables, ShortBuffer}
 use Rattle.answer.specs.declared.SearchFault.the-variants.{NoPlan}

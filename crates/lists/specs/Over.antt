@@ -1,12 +1,12 @@
 -- A table whose first entries are written and whose later entries are untouched.
 -- Assumes nothing.
-use Prim.Native.Nat.{ℕ, suc, _≤_, _<_}
+use Prim.Native.Nat.{ℕ, suc, _+_, _-_, _≤_, _<_}
 use mathlib.Core.Path.{_≡_, sym, ap, _∙_}
 use mathlib.Core.List.{List, [], _∷_, _++_, append-assoc}
 use native.Mathlib.Numerals.{add-one}
 use native.Mathlib.Omega.{arith}
 use lib.ListN.{length, getD, drop, set, length-append, length-drop, length-set, List·getD-append}
-use lib.Seq.{drop-at, drop-cons, set-append-seam, set-append-left}
+use lib.Seq.{drop-at, drop-cons, getD-append-add, getD-drop, set-append-seam, set-append-left}
 
 module _ {A : Type 0} where
   -- the table `old` with the entries of `new` in the place of its first ones
@@ -19,6 +19,15 @@ module _ {A : Type 0} where
   -- the first entries are the new ones
   pub getD-over : (new old : List A) (i : ℕ) (d : A) → i < length new → getD (over new old) i d ≡ getD new i d
   getD-over new old i d h = List·getD-append new (drop (length new) old) d i h
+
+  -- the later entries are the old ones
+  pub getD-later : (new old : List A) (i : ℕ) (d : A) → length new ≤ i → getD (over new old) i d ≡ getD old i d
+  getD-later new old i d h =
+      let e : length new + (i - length new) ≡ i = omega arith in
+      ap (λ (j : ℕ). getD (over new old) j d) (sym e)
+      ∙ getD-append-add new (drop (length new) old) (i - length new) d
+      ∙ getD-drop (length new) old (i - length new) d
+      ∙ ap (λ (j : ℕ). getD old j d) e
 
   -- one entry more, written at the first place that is not written yet
   pub over-more : (new old : List A) (a : A) → length new < length old → set (over new old) (length new) a ≡ over (new ++ (a ∷ [])) old

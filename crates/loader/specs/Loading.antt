@@ -1,6 +1,6 @@
 -- Loading a good sheet record after record: the tables hold the records that have been read, and at the end all of them.
 -- Assumes nothing.
-use Prim.Native.Nat.{ℕ, _+_, _≤_, _<_}
+use Prim.Native.Nat.{ℕ, _+_, _≤_}
 use mathlib.Core.Path.{_≡_, refl, sym, ap, ap₂, _∙_, subst}
 use mathlib.Core.Bool.{Bool, true, false, cond, _&&_}
 use mathlib.Core.List.{List, [], _∷_, _++_}
@@ -16,10 +16,10 @@ use Rattle.sheet.specs.Records.{headSize}
 use Rattle.sheet.specs.Arcs.{arcsOf, arcs}
 use Rattle.sheet.specs.Verdict.{Verdict, good, bad, sizes, openingOf, stepOf, verdict}
 use Rattle.sheet.specs.Passed.{RecordOk}
-use Rattle.sheet.specs.Reads.{arcs-append, Extends, reading-extends}
-use Rattle.loader.specs.Tables.{Tables, tables, areLong, loaded, loadedBy, Outcome, outcome, afterVerdict, loadingOf}
+use Rattle.sheet.specs.Reads.{arcs-append, reading-extends}
+use Rattle.loader.specs.Tables.{Tables, tables, areLong, loaded, loadedBy, outcome, afterVerdict, loadingOf}
 use Rattle.loader.specs.Writing.{withRecord, LandingFits, Fits, Long, SameLengths, loaded-lengths, loaded-more, loaded-none, loaded-anew}
-use Rattle.sheet.specs.Underway.{Underway, Went, went, underway-opened, underway-next, ended, stopped}
+use Rattle.sheet.specs.Underway.{Underway, went, underway-opened, underway-next, ended, stopped}
 use Rattle.sheet.specs.Judged.{judgedOf}
 use Rattle.sheet.specs.declared.record.Record.{Record}
 use Rattle.sheet.specs.declared.record.Record.the-variants.{OneWay, BothWays, Landing}

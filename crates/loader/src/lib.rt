@@ -17,7 +17,6 @@ ghost use Rattle.subset.specs.Sets.{union, single};
 ghost use Rattle.loader.specs.Tables.{tables, terminalsIn, longEnough, loadedBy, outcome, loadingOf};
 ghost use Rattle.loader.specs.Loading.{Loadable, Loading};
 ghost use Rattle.loader.specs.Writing.{Fits, withRecord};
-ghost use Rattle.sheet.specs.Underway.{Underway};
 ghost use Rattle.sheet.specs.Verdict.{verdict};
 
 // What a loading gives: the sites, stations and number of legs of the sheet that the tables now hold, or the refusal.

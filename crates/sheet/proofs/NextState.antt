@@ -1,7 +1,7 @@
 -- The reading state after a record, as the code makes it, field by field.
 -- Assumes nothing.
 use Prim.Native.Nat.{ℕ, _+_}
-use mathlib.Core.Path.{_≡_, refl, sym, ap, _∙_}
+use mathlib.Core.Path.{_≡_, sym, ap, _∙_}
 use native.Mathlib.Nat.{add-zero}
 use lib.Bits.{or-zero-r}
 use lib.ListN.{length, drop}
@@ -14,11 +14,9 @@ use Rattle.sheet.specs.Arcs.{arcsOf}
 use Rattle.sheet.specs.Landings.{heardBy}
 use Rattle.sheet.specs.Verdict.{foundIn, after, stepAfter, stepOf}
 use Rattle.sheet.specs.declared.record.Record.{Record}
-use Rattle.sheet.specs.declared.record.Record.the-variants.{OneWay, BothWays, Landing}
+use Rattle.sheet.specs.declared.record.Record.the-variants.{Landing}
 use Rattle.sheet.specs.declared.reading.Reading.{Reading}
-use Rattle.sheet.specs.declared.reading.Found.{Found}
 use Rattle.sheet.specs.declared.reading.Found.the-variants.{Item, End, Fault}
-use Rattle.sheet.specs.declared.reading.Step.{Step}
 use Rattle.sheet.specs.declared.reading.Step.the-variants.{Next, End as Ended, Fault as Stopped}
 
 -- after a link the heard stations are the same

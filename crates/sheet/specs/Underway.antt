@@ -1,7 +1,7 @@
 -- A reading underway: the state is that after the head and some records, and the bytes that are left decide the verdict.
 -- Assumes nothing.
 use Prim.Native.Nat.{ℕ, _+_, _-_, _≤_, _<_}
-use mathlib.Core.Path.{_≡_, refl, sym, ap, ap₂, _∙_, subst}
+use mathlib.Core.Path.{_≡_, refl, sym, ap, _∙_, subst}
 use mathlib.Core.List.{List, [], _∷_, _++_}
 use native.Mathlib.Omega.{arith}
 use lib.ListN.{length, drop, length-drop}
@@ -9,9 +9,9 @@ use lib.Seq.{drop-drop}
 use Rattle.limits.specs.Limits.{maxTerminals, maxArcs}
 use Rattle.answer.specs.declared.SheetFault.{SheetFault}
 use Rattle.sheet.specs.Records.{headSize, size}
-use Rattle.sheet.specs.Arcs.{arcs, arcsOf}
-use Rattle.sheet.specs.Verdict.{Verdict, good, bad, sizes, stateAfter, after, openingOf, foundIn, stepAfter, stepOf, reading, afterHead, verdict}
-use Rattle.sheet.specs.Passed.{Passed, found-item, size-low, OpenedOk, opening-opened, RecordOk}
+use Rattle.sheet.specs.Arcs.{arcs}
+use Rattle.sheet.specs.Verdict.{good, bad, sizes, stateAfter, after, openingOf, foundIn, stepAfter, stepOf, reading, afterHead, verdict}
+use Rattle.sheet.specs.Passed.{found-item, size-low, opening-opened, RecordOk}
 use Rattle.sheet.specs.Reads.{state-more, reading-item, reading-end, reading-fault}
 use Rattle.sheet.specs.declared.record.Record.{Record}
 use Rattle.sheet.specs.declared.reading.Reading.{Reading}

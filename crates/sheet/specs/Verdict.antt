@@ -1,7 +1,7 @@
 -- The verdict on a byte string: a good sheet with its sites, stations and records, or the first refusal of "What is sent back", 1 to 10.
 -- Reading goes record by record; the first faulty record decides, and within one the tests stand in document 01's order.
 -- Assumes nothing.
-use Prim.Native.Nat.{ℕ, zero, suc, _+_, _≤_, _<_, _^_}
+use Prim.Native.Nat.{ℕ, zero, suc, _+_}
 use mathlib.Core.Bool.{cond, not}
 use mathlib.Core.List.{List, [], _∷_, _++_}
 use lib.ListN.{length, drop}
@@ -10,8 +10,7 @@ use Rattle.limits.specs.Limits.{maxNodes, maxTerminals, maxArcs, minWeight, max
 use Rattle.limits.specs.Marks.{markHD, markLK, markBK, markST, markED}
 use Rattle.answer.specs.declared.SheetFault.{SheetFault}
 use Rattle.answer.specs.declared.SheetFault.the-variants.{ShortSheet, StrangeMark, BadHead, NoSuchSite, NoSuchStation, Loop, BadPrice, TooManyLegs, AfterTheEnd, Unheard}
-use Rattle.subset.specs.Sets.{empty, full, single, union}
-use Rattle.subset.specs.declared.Subset.{Subset}
+use Rattle.subset.specs.Sets.{full, union}
 use Rattle.sheet.specs.Fields.{number16}
 use Rattle.sheet.specs.Records.{headFields, linkFields, landingFields, headSize, size}
 use Rattle.sheet.specs.Arcs.{arcsOf, arcs}

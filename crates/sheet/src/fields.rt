@@ -2,7 +2,7 @@
 ghost use mathlib.Core.Path.{_≡_};
 ghost use Prim.Native.Nat.{_+_, _<_};
 ghost use lib.ListN.{length};
-ghost use Rattle.sheet.specs.Fields.{number8, number16, number32};
+ghost use Rattle.sheet.specs.Fields.{number16, number32};
 ghost use Rattle.sheet.specs.Records.{headFields, linkFields, landingFields};
 
 // The sites and stations of `HD`.

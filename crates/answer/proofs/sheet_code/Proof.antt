@@ -1,6 +1,6 @@
 -- `answer::sheet_code` meets its contract. Each case's number and place are those stated of it.
 -- Assumes nothing.
-use mathlib.Core.Path.{_≡_, sym, ap}
+use mathlib.Core.Path.{sym, ap}
 use Rattle.answer.specs.Stated.{statedSheet}
 use borrow.Author.Needs.{needs}
 use Rattle.answer.proofs.sheet_code.Statement.{statement}

@@ -1,7 +1,7 @@
 -- `loader::load` meets its contract. After the head the sets are cleared, and the tables hold no record yet.
 -- Assumes nothing.
 use Prim.Native.Nat.{ℕ}
-use mathlib.Core.Path.{_≡_, sym, ap, _∙_, subst}
+use mathlib.Core.Path.{sym, ap, _∙_, subst}
 use mathlib.Core.List.{List}
 use denote.Ref.{now}
 use Rattle.sheet.specs.Verdict.{Verdict, verdict}

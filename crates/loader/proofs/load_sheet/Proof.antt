@@ -1,6 +1,6 @@
 -- `loader::load_sheet` meets its contract. The sheet is judged, the lengths are tested, and the tables are loaded.
 -- Assumes nothing.
-use mathlib.Core.Path.{_≡_, sym, _∙_}
+use mathlib.Core.Path.{sym, _∙_}
 use denote.Ref.{now}
 use Rattle.loader.specs.Tables.{tables}
 use Rattle.loader.specs.Loading.{loadable-tested, loaded-whole, refused-short, refused-sheet}

@@ -1,7 +1,7 @@
 -- `loader::put_landing` meets its contract. The set that joins is that of the station alone.
 -- Assumes nothing.
 use Prim.Native.Nat.{ℕ}
-use mathlib.Core.Path.{_≡_, ap}
+use mathlib.Core.Path.{ap}
 use lib.ListN.{set, getD}
 use denote.Ref.{now}
 use Rattle.subset.specs.Sets.{union}

@@ -1,6 +1,6 @@
 -- `loader::put_record` meets its contract. The tables have room for the record's legs and landing, and each table is what the record writes.
 -- Assumes nothing.
-use mathlib.Core.Path.{_≡_, subst}
+use mathlib.Core.Path.{subst}
 use native.Mathlib.Omega.{arith}
 use denote.Ref.{now}
 use Rattle.loader.specs.Tables.{tables}

@@ -1,6 +1,6 @@
 -- `sheet::judge::judge` meets its contract. The reading is underway after the head.
 -- Assumes nothing.
-use mathlib.Core.Path.{_≡_, sym, ap, _∙_}
+use mathlib.Core.Path.{sym, ap, _∙_}
 use Rattle.sheet.specs.Underway.{underway-opened, not-opened}
 use Rattle.sheet.specs.Judged.{judgedOf}
 use borrow.Author.Needs.{needs}

@@ -1,11 +1,11 @@
 -- `sheet::reading::Reading::after` meets its contract. The sums fit by the room for the record; the fields are those of the next state.
 -- Assumes nothing.
 use native.Mathlib.Omega.{arith}
-use mathlib.Core.Path.{_≡_, refl, sym, ap, _∙_, subst}
+use mathlib.Core.Path.{refl, ap, _∙_, subst}
 use Rattle.subset.specs.Sets.{union}
 use Rattle.sheet.specs.Verdict.{after}
 use Rattle.sheet.specs.Room.{Room}
-use Rattle.sheet.specs.declared.record.Record.the-variants.{OneWay, BothWays, Landing}
+use Rattle.sheet.specs.declared.record.Record.the-variants.{Landing}
 use Rattle.sheet.proofs.NextState.{after-link, after-landing}
 use borrow.Author.Needs.{needs}
 use Rattle.sheet.proofs.reading.Reading.after.Statement.{statement}

@@ -1,6 +1,6 @@
 -- `sheet::reading::Reading::end` meets its contract. Each return has the tests that led to it.
 -- Assumes nothing.
-use mathlib.Core.Path.{_≡_, _∙_, sym}
+use mathlib.Core.Path.{_∙_, sym}
 use borrow.Author.Tests.{eq-eqb, le-ltb, lt-ltb, ne-eqb}
 use borrow.Author.Needs.{needs}
 use Rattle.sheet.proofs.reading.Reading.end.Statement.{statement}
