@@ -1,9 +1,11 @@
--- What every entry of a list has.
+-- What every entry of a list has: of lists put together, of parts of a list, and at a position;
+-- and what follows from it for every entry.
 -- Assumes nothing.
-use Prim.Native.Nat.{ℕ}
-use mathlib.Core.Path.{sym, subst}
+use Prim.Native.Nat.{ℕ, zero, suc, _<_}
+use mathlib.Core.Path.{_≡_, sym, subst}
 use mathlib.Core.List.{List, [], _∷_, _++_, List·Memᴰ, List·Memᴰ·head, List·Memᴰ·tail}
-use lib.ListN.{take, drop, take-append-drop}
+use native.Mathlib.Nat.{le-of-suc-le-suc, not-suc-le-zero}
+use lib.ListN.{length, getD, take, drop, take-append-drop}
 
 module _ {A : Type 0} (P : A → Type 0) where
   -- every entry of the list has P
@@ -29,3 +31,13 @@ module _ {A : Type 0} (P : A → Type 0) where
   pub every-mem : {x : A} {l : List A} → Every l → List·Memᴰ x l → P x
   every-mem e (List·Memᴰ·head s) = subst P (sym s) (e .0)
   every-mem e (List·Memᴰ·tail m) = every-mem (e .1) m
+
+  pub every-at : (l : List A) → Every l → (i : ℕ) (d : A) → i < length l → P (getD l i d)
+  every-at [] e i d h = absurd (not-suc-le-zero h)
+  every-at (x ∷ l) e zero d h = e .0
+  every-at (x ∷ l) e (suc i) d h = every-at l (e .1) i d (le-of-suc-le-suc h)
+
+-- what follows from P, every entry has too
+pub every-imp : {A : Type 0} (P Q : A → Type 0) → ((x : A) → P x → Q x) → (l : List A) → Every P l → Every Q l
+every-imp P Q f [] e = tt
+every-imp P Q f (x ∷ l) e = (f x (e .0), every-imp P Q f l (e .1))

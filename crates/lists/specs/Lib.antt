@@ -1,4 +1,9 @@
+pub mod ByTest
+pub mod Count
 pub mod Every
+pub mod Joined
 pub mod Numbers
 pub mod Over
 pub mod Rest
+pub mod Select
+pub mod Sorted

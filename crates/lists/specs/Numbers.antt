@@ -1,6 +1,7 @@
--- Rising numbers, as a list.
+-- Rising numbers, as a list: their length, their entries, and how often each occurs.
+-- The values of a function at them, as a list.
 -- Assumes nothing.
-use Prim.Native.Nat.{ℕ, zero, suc, _+_, _<_}
+use Prim.Native.Nat.{ℕ, zero, suc, _+_, _≤_, _<_}
 use mathlib.Core.Path.{_≡_, refl, sym, ap, _∙_}
 use mathlib.Core.Logic.{_≢_}
 use mathlib.Core.List.{List, [], _∷_, map}
@@ -9,6 +10,12 @@ use native.Mathlib.Omega.{arith}
 use native.Mathlib.Decide.{ℕ-discrete}
 use lib.ListN.{length, getD, set, replicate, length-map, length-set, length-replicate, getD-replicate}
 use lib.Seq.{ext-getD, getD-set-same, getD-set-other}
+use lib.Dec.{eqb}
+use borrow.Author.Tests.{ne-eqb, eqb-true, eqb-false}
+use Rattle.lists.specs.ByTest.{by-test}
+use Rattle.lists.specs.Every.{Every, every-imp}
+use Rattle.lists.specs.Sorted.{Sorted}
+use Rattle.lists.specs.Count.{bit, count}
 
 -- n numbers, rising from a
 abbrev pub numbers : ℕ → ℕ → List ℕ
@@ -23,6 +30,31 @@ pub getD-numbers : (a n i d : ℕ) → i < n → getD (numbers a n) i d ≡ a + 
 getD-numbers a zero i d h = absurd (not-suc-le-zero h)
 getD-numbers a (suc n) zero d h = omega arith
 getD-numbers a (suc n) (suc i) d h = getD-numbers (suc a) n i d (le-of-suc-le-suc h) ∙ omega arith
+
+-- a number of `numbers a n` is a or more, and below a + n
+pub every-number : (a n : ℕ) → Every (λ x. (a ≤ x) × (x < a + n)) (numbers a n)
+every-number a zero = tt
+every-number a (suc n) = (
+  (omega arith, omega arith),
+  every-imp (λ x. (suc a ≤ x) × (x < suc a + n)) (λ x. (a ≤ x) × (x < a + suc n)) (λ x h. (omega arith, omega arith)) (numbers (suc a) n) (every-number (suc a) n),
+)
+
+pub sorted-numbers : (a n : ℕ) → Sorted _<_ (numbers a n)
+sorted-numbers a zero = tt
+sorted-numbers a (suc n) =
+    (every-imp (λ x. (suc a ≤ x) × (x < suc a + n)) (λ x. a < x) (λ x h. h .0) (numbers (suc a) n) (every-number (suc a) n), sorted-numbers (suc a) n)
+
+-- a number from a to a + n - 1 occurs once in `numbers a n`, and one below a does not
+pub count-number-none : (w a n : ℕ) → w < a → count w (numbers a n) ≡ 0
+count-number-none w a zero h = refl
+count-number-none w a (suc n) h = omega (arith, count-number-none w (suc a) n (omega arith), ap bit (ne-eqb w a (λ s. omega arith)))
+
+pub count-number : (w a n : ℕ) → a ≤ w → w < a + n → count w (numbers a n) ≡ 1
+count-number w a zero l h = absurd (omega arith)
+count-number w a (suc n) l h =
+    by-test (eqb w a) (λ b. bit b + count w (numbers (suc a) n) ≡ 1)
+    (λ e. let s = eqb-true w a e in omega (arith, count-number-none w (suc a) n (omega arith)))
+    (λ e. let d = eqb-false w a e in omega (arith, count-number w (suc a) n (omega arith) (omega arith)))
 
 -- ---- a function's values at 0, 1, .., n - 1
 

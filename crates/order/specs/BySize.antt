@@ -4,12 +4,18 @@ use Prim.Native.Nat.{ℕ, zero, suc, _+_, _^_, _≤_, _<_}
 use mathlib.Core.Path.{_≡_, refl, sym, ap, ap₂, _∙_}
 use mathlib.Core.Logic.{_⊎_, inl, inr}
 use mathlib.Core.Bool.{Bool, true, false}
-use mathlib.Core.List.{List, [], _∷_, _++_}
+use mathlib.Core.List.{List, [], _∷_}
 use native.Mathlib.Omega.{arith}
 use lib.Dec.{T, eqb, eqb→eq}
 use lib.ListN.{length, length-append}
-use Rattle.order.specs.Order.{numbers, keep, select, joined, ofSize, orderBy}
-use Rattle.order.specs.Lists.{by-test, select-same, length-numbers, Every, every-imp, every-append, every-select, every-number, Sorted, sorted-imp, sorted-append, sorted-select, sorted-numbers, bit, count, count-append, count-select, count-select-none, count-number}
+use Rattle.lists.specs.ByTest.{by-test}
+use Rattle.lists.specs.Count.{bit, count, count-append, count-select, count-select-none}
+use Rattle.lists.specs.Every.{Every, every-imp, every-append}
+use Rattle.lists.specs.Joined.{joined, joined-same, joined-none}
+use Rattle.lists.specs.Numbers.{numbers, length-numbers, every-number, sorted-numbers, count-number}
+use Rattle.lists.specs.Select.{keep, select, every-select, select-same}
+use Rattle.lists.specs.Sorted.{Sorted, sorted-imp, sorted-append, sorted-select}
+use Rattle.order.specs.Order.{ofSize, orderBy}
 
 -- x is before y: a smaller size, or the same size and a smaller number
 abbrev pub Before : (ℕ → ℕ) → ℕ → ℕ → Type 0
@@ -71,11 +77,7 @@ selected size l s = select (λ w. eqb (size w) s) l
 
 -- the lists of the sizes ss have together as many entries as l, where the size of each entry of l occurs once in ss
 length-joined : (size : ℕ → ℕ) (ss l : List ℕ) → Every (λ x. count (size x) ss ≡ 1) l → length (joined (selected size l) ss) ≡ length l
-length-joined size ss [] e = none ss
-  where
-    none : (ss : List ℕ) → length (joined (λ s. []) ss) ≡ 0
-    none [] = refl
-    none (s ∷ ss) = none ss
+length-joined size ss [] e = ap length (joined-none (selected size []) (λ s. refl) ss)
 length-joined size ss (x ∷ l) e = omega (arith, one-more ss, length-joined size ss l (e .1), e .0)
   where
     length-keep : (t : Bool) (a : List ℕ) → length (keep t x a) ≡ bit t + length a
@@ -128,8 +130,4 @@ module _ (size : ℕ → ℕ) (k : ℕ) (small : (w : ℕ) → w < 2 ^ k → siz
 -- two counts that agree on the sets of k stations give the same order
 pub same-orderBy : (f g : ℕ → ℕ) (k : ℕ) → ((w : ℕ) → w < 2 ^ k → f w ≡ g w) → orderBy f k ≡ orderBy g k
 unfolding orderBy
-same-orderBy f g k h = each (numbers 0 (suc k))
-  where
-    each : (ss : List ℕ) → joined (ofSize f (2 ^ k)) ss ≡ joined (ofSize g (2 ^ k)) ss
-    each [] = refl
-    each (s ∷ ss) = ap₂ _++_ (same-ofSize f g (2 ^ k) h s) (each ss)
+same-orderBy f g k h = joined-same (ofSize f (2 ^ k)) (ofSize g (2 ^ k)) (same-ofSize f g (2 ^ k) h) (numbers 0 (suc k))

@@ -11,11 +11,13 @@ use native.Mathlib.Omega.{arith}
 use lib.ListN.{length}
 use lib.Count.{ones, onesIn, ones-step, ones-le}
 use lib.Pow.{shr-lt}
-use Rattle.limits.specs.Limits.{maxTerminals}
+use Rattle.limits.specs.Limits.{maxTerminals, maxSubsets}
+use Rattle.lists.specs.Count.{count, count-position}
+use Rattle.lists.specs.Every.{every-at}
+use Rattle.lists.specs.Sorted.{sorted-at}
 use Rattle.subset.specs.Sets.{Part}
 use Rattle.subset.specs.Sizes.{proper-part-size}
 use Rattle.order.specs.Order.{ofSize, orderBy, order, inOrder}
-use Rattle.order.specs.Lists.{every-at, sorted-at, count, count-position}
 use Rattle.order.specs.BySize.{Before, once-orderBy, length-orderBy, every-orderBy, sorted-orderBy, same-orderBy}
 
 -- the order of three stations
@@ -23,27 +25,27 @@ three-stations : orderBy ones 3 ≡ 0 ∷ 1 ∷ 2 ∷ 4 ∷ 3 ∷ 5 ∷ 6 ∷ 7 
 unfolding orderBy ofSize ones onesIn
 three-stations = refl
 
-pub length-order : length order ≡ 1024
+pub length-order : length order ≡ maxSubsets
 unfolding order
 length-order = length-orderBy ones maxTerminals (ones-le maxTerminals)
 
-pub occurs-once : (w : ℕ) → w < 1024 → count w order ≡ 1
+pub occurs-once : (w : ℕ) → w < maxSubsets → count w order ≡ 1
 unfolding order
 occurs-once w h = once-orderBy ones maxTerminals (ones-le maxTerminals) w h
 
-within : (i : ℕ) → i < 1024 → i < length order
+within : (i : ℕ) → i < maxSubsets → i < length order
 within i h = omega (arith, length-order)
 
-pub below : (i : ℕ) → i < 1024 → inOrder i < 1024
+pub below : (i : ℕ) → i < maxSubsets → inOrder i < maxSubsets
 unfolding inOrder order
-below i h = every-at (λ x. x < 1024) (orderBy ones maxTerminals) (every-orderBy ones maxTerminals) i (within i h)
+below i h = every-at (λ x. x < maxSubsets) (orderBy ones maxTerminals) (every-orderBy ones maxTerminals) i 0 (within i h)
 
 -- an earlier entry has a smaller size, or the same size and a smaller number
-pub earlier : (i j : ℕ) → i < j → j < 1024 → Before ones (inOrder i) (inOrder j)
+pub earlier : (i j : ℕ) → i < j → j < maxSubsets → Before ones (inOrder i) (inOrder j)
 unfolding inOrder order
-earlier i j h k = sorted-at (Before ones) (orderBy ones maxTerminals) (sorted-orderBy ones maxTerminals) i j h (within j k)
+earlier i j h k = sorted-at (Before ones) (orderBy ones maxTerminals) (sorted-orderBy ones maxTerminals) i j 0 h (within j k)
 
-pub never-falls : (i j : ℕ) → i ≤ j → j < 1024 → ones (inOrder i) ≤ ones (inOrder j)
+pub never-falls : (i j : ℕ) → i ≤ j → j < maxSubsets → ones (inOrder i) ≤ ones (inOrder j)
 never-falls i j h k = go (eq-or-lt-of-le h)
   where
     size : (x y : ℕ) → Before ones x y → ones x ≤ ones y
@@ -54,7 +56,7 @@ never-falls i j h k = go (eq-or-lt-of-le h)
     go (inl e) = omega (arith, ap (λ (x : ℕ). ones (inOrder x)) e)
     go (inr l) = size (inOrder i) (inOrder j) (earlier i j l k)
 
-pub rises : (i j : ℕ) → i < j → j < 1024 → ones (inOrder i) ≡ ones (inOrder j) → inOrder i < inOrder j
+pub rises : (i j : ℕ) → i < j → j < maxSubsets → ones (inOrder i) ≡ ones (inOrder j) → inOrder i < inOrder j
 rises i j h k e = go (earlier i j h k)
   where
     go : Before ones (inOrder i) (inOrder j) → inOrder i < inOrder j
@@ -62,13 +64,13 @@ rises i j h k e = go (earlier i j h k)
     go (inr b) = b .1
 
 -- every subset stands at one position
-pub position : (w : ℕ) → w < 1024 → (i : ℕ) × (i < 1024) × (inOrder i ≡ w)
+pub position : (w : ℕ) → w < maxSubsets → (i : ℕ) × (i < maxSubsets) × (inOrder i ≡ w)
 unfolding inOrder
 position w h =
     let p = count-position w order (omega (arith, occurs-once w h)) in
     (p .0, omega (arith, p .1, length-order), p .2)
 
-pub one-position : (i j : ℕ) → i < 1024 → j < 1024 → inOrder i ≡ inOrder j → i ≡ j
+pub one-position : (i j : ℕ) → i < maxSubsets → j < maxSubsets → inOrder i ≡ inOrder j → i ≡ j
 one-position i j h k e =
     let a : i < j → ⊥ = λ l. differ (inOrder i) (inOrder j) (earlier i j l k) e in
     let b : j < i → ⊥ = λ l. differ (inOrder j) (inOrder i) (earlier j i l h) (sym e) in
@@ -79,7 +81,7 @@ one-position i j h k e =
     differ x y (inr b) e = omega arith
 
 -- every part of a subset but itself stands before it
-pub part-earlier : (j y : ℕ) → j < 1024 → Part y (inOrder j) → y < inOrder j → (i : ℕ) × (i < j) × (inOrder i ≡ y)
+pub part-earlier : (j y : ℕ) → j < maxSubsets → Part y (inOrder j) → y < inOrder j → (i : ℕ) × (i < j) × (inOrder i ≡ y)
 part-earlier j y h p l =
     let q = position y (omega (arith, below j h)) in
     let late : j ≤ q .0 → ⊥ = λ a. omega (arith, never-falls j (q .0) a (q .1), ap ones (q .2), proper-part-size (inOrder j) y p l) in

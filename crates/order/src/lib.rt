@@ -2,13 +2,14 @@
 use subset::Subset;
 ghost use mathlib.Core.Path.{_≡_};
 ghost use Prim.Native.Nat.{_<_};
+ghost use Rattle.limits.specs.Limits.{maxSubsets};
 ghost use Rattle.order.specs.Order.{inOrder};
 
 mod table;
 
 // The subset at a position of the order.
 pub fn at(position: usize) -> Subset
-    requires { ⌜ position < 1024 ⌝ }
+    requires { ⌜ position < maxSubsets ⌝ }
     ensures { λ r. ⌜ r .0 ≡ inOrder position ⌝ }
 {
     Subset(table::ORDER[position])

@@ -1,0 +1,72 @@
+-- `put` is safe and ends: the bytes that are left fall at each turn. The place stays within the buffer, whose length is kept.
+-- Assumes nothing.
+use Prim.Native.Nat.{ℕ, _+_, _-_, _≤_, _<_}
+use mathlib.Core.Path.{_≡_}
+use mathlib.Core.List.{List}
+use native.Mathlib.Omega.{arith}
+use lib.ListN.{length, set, length-set}
+use borrow.Author.Needs.{needs}
+use Rattle.io.proofs.Counting.{front}
+use Rattle.sheet_cases.proofs.build.put.Statement.{statement}
+use Rattle.sheet_cases.proofs.build.put.Tie as tie
+
+-- after a byte is written, the next place is within the buffer
+room : (l : List ℕ) (i x : ℕ) → i < length l → i + 1 ≤ length (set l i x)
+room l i x h = omega (arith, length-set l i x)
+
+abbrev Inv-loop : tie.InvT-loop
+Inv-loop sheet₀ at bytes next₀ i₀ sheet next i = (length sheet ≡ length sheet₀) × (next ≤ length sheet)
+
+abbrev μ-loop : tie.MeasureT-loop
+μ-loop sheet₀ at bytes next₀ i₀ sheet next i = length bytes - i
+
+loop-holds : tie.Need-loop-holds Inv-loop μ-loop
+loop-holds c = search needs
+
+shared-slice-read-sheet : tie.Need-shared-slice-read-sheet Inv-loop μ-loop
+shared-slice-read-sheet c = search needs
+
+slice-write-sheet : tie.Need-slice-write-sheet Inv-loop μ-loop
+slice-write-sheet c = search needs
+
+add-next : tie.Need-add-next Inv-loop μ-loop
+add-next c = search needs
+
+add-i : tie.Need-add-i Inv-loop μ-loop
+add-i c = search needs
+
+loop-less : tie.Need-loop-less Inv-loop μ-loop
+loop-less c = search needs
+
+loop-again : tie.Need-loop-again Inv-loop μ-loop
+loop-again c = (search needs, room (c .before .before .before .loop .sheet) (c .before .before .before .loop .next) _ (search needs))
+
+same-length : tie.Need-same-length Inv-loop μ-loop
+same-length c = search needs
+
+returns : tie.Need-returns Inv-loop μ-loop
+returns c = (search needs, front _ _ (search needs))
+
+same-length-2 : tie.Need-same-length-2 Inv-loop μ-loop
+same-length-2 c = search needs
+
+returns-2 : tie.Need-returns-2 Inv-loop μ-loop
+returns-2 c = (search needs, front _ _ (search needs))
+
+pub put-spec : {M : Type 1} → statement M
+put-spec =
+    tie.close
+    (tie.spec
+    Inv-loop
+    μ-loop
+    loop-holds
+    shared-slice-read-sheet
+    slice-write-sheet
+    add-next
+    add-i
+    loop-less
+    loop-again
+    same-length
+    returns
+    same-length-2
+    returns-2)

@@ -1,0 +1,46 @@
+// A case: its name and what the loading of its sheet gave.
+// Before the loading the tables of small sheets hold values that no sheet has.
+use crate::build::put;
+use loader::load_sheet;
+use sheet_text::print;
+use sheet_text::print_loaded;
+use sheet_text::print_verdict;
+
+pub fn print_name(name: &[u8]) {
+    print(name);
+    print(b": ");
+}
+
+// The verdict, the legs and the sites of a sheet of at most eight legs and eight sites.
+pub fn show(name: &[u8], sheet: &[u8]) {
+    let mut starts = [60001u16; 8];
+    let mut ends = [60002u16; 8];
+    let mut weights = [4000000003u32; 8];
+    let mut landings = [60004u16; 8];
+    let loaded = load_sheet(sheet, &mut starts, &mut ends, &mut weights, &mut landings);
+    print_name(name);
+    print_loaded(loaded, &starts, &ends, &weights, &landings);
+}
+
+// The same of a sheet that starts with `HD` 3 2 and `LK` 0 1 5: the first of the given records stands at place 15.
+pub fn later(name: &[u8], records: &[u8]) {
+    let mut sheet = [0u8; 64];
+    let at = put(
+        &mut sheet,
+        0,
+        b"HD\x00\x03\x02LK\x00\x00\x00\x01\x00\x00\x00\x05",
+    );
+    let length = put(&mut sheet, at, records);
+    show(name, &sheet[..length]);
+}
+
+// The verdict alone, with tables for the limits of document 01.
+pub fn verdict(name: &[u8], sheet: &[u8]) {
+    let mut starts = [0u16; 8192];
+    let mut ends = [0u16; 8192];
+    let mut weights = [0u32; 8192];
+    let mut landings = [0u16; 1024];
+    let loaded = load_sheet(sheet, &mut starts, &mut ends, &mut weights, &mut landings);
+    print_name(name);
+    print_verdict(loaded);
+}

@@ -1,0 +1,105 @@
+// The tables after a loading: the first entries written and the later ones untouched, or, after a refusal, all of them untouched.
+// Each table is lent with values that no sheet has, and all its entries are printed.
+use crate::case::print_name;
+use crate::worked::B;
+use crate::worked::C;
+use crate::worked::D;
+use loader::load_sheet;
+use sheet_text::print;
+use sheet_text::print_field;
+use sheet_text::print_verdict;
+ghost use Prim.Native.Nat.{_≤_};
+
+// One byte follows `ED`.
+const LATE: [u8; 23] = *b"HD\x00\x02\x01LK\x00\x00\x00\x01\x00\x00\x00\x05ST\x00\x00\x00ED\x00";
+
+// Station 1 has no landing.
+const UNHEARD: [u8; 22] = *b"HD\x00\x02\x02LK\x00\x00\x00\x01\x00\x00\x00\x05ST\x00\x00\x00ED";
+
+fn print_entry(entry: u16) {
+    print_field(b" ", entry as u64);
+}
+
+fn print_weight(weight: u32) {
+    print_field(b" ", weight as u64);
+}
+
+fn end_line() {
+    print(b"\n");
+}
+
+fn print_entries(word: &[u8], table: &[u16; 6]) {
+    print(word);
+    let mut i = 0;
+    while i < 6 {
+        print_entry(table[i]);
+        i += 1;
+    }
+    end_line();
+}
+
+fn print_weights(word: &[u8], table: &[u32; 6]) {
+    print(word);
+    let mut i = 0;
+    while i < 6 {
+        print_weight(table[i]);
+        i += 1;
+    }
+    end_line();
+}
+
+// A sheet, and how many of the six entries of each table are lent: leg starts, leg ends, leg prices, landing sets.
+fn lent(
+    name: &[u8],
+    sheet: &[u8],
+    start_count: usize,
+    end_count: usize,
+    weight_count: usize,
+    landing_count: usize,
+)
+    requires { ⌜ («start_count» ≤ 6) × («end_count» ≤ 6) × («weight_count» ≤ 6) × («landing_count» ≤ 6) ⌝ }
+{
+    let mut starts = [60001u16; 6];
+    let mut ends = [60002u16; 6];
+    let mut weights = [4000000003u32; 6];
+    let mut landings = [60004u16; 6];
+    let loaded = load_sheet(
+        sheet,
+        &mut starts[..start_count],
+        &mut ends[..end_count],
+        &mut weights[..weight_count],
+        &mut landings[..landing_count],
+    );
+    print_name(name);
+    print_verdict(loaded);
+    print_entries(b"leg starts", &starts);
+    print_entries(b"leg ends", &ends);
+    print_weights(b"leg prices", &weights);
+    print_entries(b"landing sets", &landings);
+}
+
+// Good sheets in tables of several lengths.
+fn good_sheets() {
+    lent(b"C in longer tables", &C, 6, 6, 6, 6);
+    lent(b"C in tables just long enough", &C, 2, 2, 2, 3);
+    lent(b"C with one leg start too few", &C, 1, 2, 2, 3);
+    lent(b"C with one leg end too few", &C, 2, 1, 2, 3);
+    lent(b"C with one leg price too few", &C, 2, 2, 1, 3);
+    lent(b"C with one landing set too few", &C, 2, 2, 2, 2);
+    lent(b"D with room for one leg", &D, 1, 1, 1, 2);
+    lent(b"D in tables just long enough", &D, 2, 2, 2, 2);
+    lent(b"B with no leg tables", &B, 0, 0, 0, 1);
+    lent(b"B with no landing sets", &B, 6, 6, 6, 0);
+}
+
+// Refused sheets, in long tables and in short ones.
+fn refused_sheets() {
+    lent(b"longer tables and a byte after ED", &LATE, 6, 6, 6, 6);
+    lent(b"short tables and a byte after ED", &LATE, 0, 0, 0, 0);
+    lent(b"longer tables and station 1 unheard", &UNHEARD, 6, 6, 6, 6);
+}
+
+pub fn run() {
+    good_sheets();
+    refused_sheets();
+}
