@@ -71,11 +71,12 @@ module _ {A : Type 0} (onPlan : ℕ → ℕ → ℕ → A) (onCell onSender : �
   find-refusal (PlanFile StationMissed) = refl
   find-refusal (PlanFile FalseTotal) = refl
 
-none : Refusal
-none = Search NoPlan
+-- any refusal, for the cases that do not arise
+anyRefusal : Refusal
+anyRefusal = Search NoPlan
 
 findRefusal : Stated → Refusal
-findRefusal = find (λ _ _ _. none) (λ _. none) (λ _. none) none (λ r. r)
+findRefusal = find (λ _ _ _. anyRefusal) (λ _. anyRefusal) (λ _. anyRefusal) anyRefusal (λ r. r)
 
 -- two refusals of which the same is stated are one refusal
 pub refusal-one-to-one : (a b : Refusal) → statedRefusal a ≡ statedRefusal b → a ≡ b
@@ -84,7 +85,7 @@ refusal-one-to-one a b same =
     sym (find-refusal _ _ _ _ (λ r. r) a) ∙ ap findRefusal same ∙ find-refusal _ _ _ _ (λ r. r) b
 
 findAnswer : Stated → Answer
-findAnswer = find Plan (λ _. Refused none) (λ _. Refused none) (Refused none) Refused
+findAnswer = find Plan (λ _. Refused anyRefusal) (λ _. Refused anyRefusal) (Refused anyRefusal) Refused
 
 answer-found : (a : Answer) → findAnswer (stated a) ≡ a
 unfolding findAnswer find

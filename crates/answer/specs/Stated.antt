@@ -67,6 +67,7 @@ statedRefusal (Tables fault) = statedTables fault
 statedRefusal (Search fault) = statedSearch fault
 statedRefusal (PlanFile fault) = statedPlanFile fault
 
+-- what caused this refusal
 abbrev pub familyOf : Refusal → Family
 familyOf (Sheet fault) = ofSheet
 familyOf (Tables fault) = ofTables

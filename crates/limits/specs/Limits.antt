@@ -2,9 +2,17 @@
 -- Assumes nothing.
 use Prim.Native.Nat.{ℕ, _^_}
 
+-- the fewest sites of a sheet
+abbrev pub minNodes : ℕ
+minNodes = 1
+
 -- the most sites of a sheet
 abbrev pub maxNodes : ℕ
 maxNodes = 1024
+
+-- the fewest stations of a sheet
+abbrev pub minTerminals : ℕ
+minTerminals = 1
 
 -- the most stations of a sheet
 abbrev pub maxTerminals : ℕ

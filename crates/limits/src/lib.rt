@@ -2,8 +2,12 @@
 // refusal numbers. specs/Limits.antt, Marks.antt and Refusals.antt have the same numbers for the definitions; every proof that
 // meets one of them on both sides fails where the two differ.
 
-// The most sites, stations and legs of a sheet.
+// The fewest and the most sites and stations, and the most legs of a sheet.
+pub const MIN_NODES: u16 = 1;
+
 pub const MAX_NODES: u16 = 1024;
+
+pub const MIN_TERMINALS: u8 = 1;
 
 pub const MAX_TERMINALS: u8 = 10;
 

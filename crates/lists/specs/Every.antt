@@ -2,7 +2,7 @@
 -- and what follows from it for every entry.
 -- Assumes nothing.
 use Prim.Native.Nat.{ℕ, zero, suc, _<_}
-use mathlib.Core.Path.{_≡_, sym, subst}
+use mathlib.Core.Path.{sym, subst}
 use mathlib.Core.List.{List, [], _∷_, _++_, List·Memᴰ, List·Memᴰ·head, List·Memᴰ·tail}
 use native.Mathlib.Nat.{le-of-suc-le-suc, not-suc-le-zero}
 use lib.ListN.{length, getD, take, drop, take-append-drop}
@@ -16,10 +16,6 @@ module _ {A : Type 0} (P : A → Type 0) where
   pub every-append : (a b : List A) → Every a → Every b → Every (a ++ b)
   every-append [] b e f = f
   every-append (x ∷ a) b e f = (e .0, every-append a b (e .1) f)
-
-  pub every-left : (a b : List A) → Every (a ++ b) → Every a
-  every-left [] b e = tt
-  every-left (x ∷ a) b e = (e .0, every-left a b (e .1))
 
   pub every-right : (a b : List A) → Every (a ++ b) → Every b
   every-right [] b e = e

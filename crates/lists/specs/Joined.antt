@@ -1,8 +1,8 @@
 -- Lists put one after the other: one list for each entry of another.
--- Functions that give the same lists, and empty lists.
+-- Functions that give the same lists, empty lists, and two lists of entries.
 -- Assumes nothing.
-use mathlib.Core.Path.{_≡_, refl, ap₂}
-use mathlib.Core.List.{List, [], _∷_, _++_}
+use mathlib.Core.Path.{_≡_, refl, sym, ap, ap₂, _∙_}
+use mathlib.Core.List.{List, [], _∷_, _++_, append-assoc}
 
 module _ {A B : Type 0} where
   -- the lists f s for each s of l, one after the other
@@ -19,3 +19,8 @@ module _ {A B : Type 0} where
   pub joined-none : (f : A → List B) → ((s : A) → f s ≡ []) → (l : List A) → joined f l ≡ []
   joined-none f h [] = refl
   joined-none f h (s ∷ l) = ap₂ _++_ (h s) (joined-none f h l)
+
+  -- the lists of two lists of entries
+  pub joined-append : (f : A → List B) (a b : List A) → joined f (a ++ b) ≡ joined f a ++ joined f b
+  joined-append f [] b = refl
+  joined-append f (s ∷ a) b = ap (λ (l : List B). f s ++ l) (joined-append f a b) ∙ sym (append-assoc (f s) (joined f a) (joined f b))

@@ -26,11 +26,6 @@ pub length-numbers : (a n : ℕ) → length (numbers a n) ≡ n
 length-numbers a zero = refl
 length-numbers a (suc n) = ap suc (length-numbers (suc a) n)
 
-pub getD-numbers : (a n i d : ℕ) → i < n → getD (numbers a n) i d ≡ a + i
-getD-numbers a zero i d h = absurd (not-suc-le-zero h)
-getD-numbers a (suc n) zero d h = omega arith
-getD-numbers a (suc n) (suc i) d h = getD-numbers (suc a) n i d (le-of-suc-le-suc h) ∙ omega arith
-
 -- a number of `numbers a n` is a or more, and below a + n
 pub every-number : (a n : ℕ) → Every (λ x. (a ≤ x) × (x < a + n)) (numbers a n)
 every-number a zero = tt

@@ -13,7 +13,7 @@ use Rattle.lists.specs.Numbers.{length-values, getD-values}
 use Rattle.lists.specs.Over.{over, getD-over, getD-later}
 use Rattle.sheet.specs.Arcs.{Arc, arc, arcs}
 use Rattle.sheet.specs.Landings.{terminalsAt, terminalSets}
-use Rattle.sheet.specs.Passed.{RecordOk}
+use Rattle.sheet.specs.Records.{RecordOk}
 use Rattle.sheet.specs.Heard.{terminalsAt-lt}
 use Rattle.sheet.specs.declared.record.Record.{Record}
 use Rattle.loader.specs.Tables.{Tables, terminalsIn, loaded}

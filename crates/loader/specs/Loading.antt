@@ -10,16 +10,15 @@ use lib.Dec.{leb}
 use lib.ListN.{length, drop, replicate, length-append}
 use Rattle.limits.specs.Limits.{maxTerminals}
 use Rattle.answer.specs.declared.SheetFault.{SheetFault}
-use Rattle.answer.specs.declared.TableFault.the-variants.{ShortTables}
-use Rattle.answer.specs.declared.Refusal.the-variants.{Sheet as OfSheet, Tables as OfTables}
-use Rattle.sheet.specs.Records.{headSize}
-use Rattle.sheet.specs.Arcs.{arcsOf, arcs}
+use Rattle.limits.specs.Refusals.{shortTables}
+use Rattle.answer.specs.Stated.{refused, ofTables, statedSheet}
+use Rattle.sheet.specs.Records.{headSize, RecordOk}
+use Rattle.sheet.specs.Arcs.{arcs}
 use Rattle.sheet.specs.Verdict.{Verdict, good, bad, sizes, openingOf, stepOf, verdict}
-use Rattle.sheet.specs.Passed.{RecordOk}
-use Rattle.sheet.specs.Reads.{arcs-append, reading-extends}
-use Rattle.loader.specs.Tables.{Tables, tables, areLong, loaded, loadedBy, outcome, afterVerdict, loadingOf}
-use Rattle.loader.specs.Writing.{withRecord, LandingFits, Fits, Long, SameLengths, loaded-lengths, loaded-more, loaded-none, loaded-anew}
-use Rattle.sheet.specs.Underway.{Underway, went, underway-opened, underway-next, ended, stopped}
+use Rattle.sheet.specs.Reads.{arcs-append, count-more, reading-extends}
+use Rattle.loader.specs.Tables.{Tables, tables, areLong, loaded, loadedBy, sheet, refusal, outcome, afterVerdict, loadingOf}
+use Rattle.loader.specs.Writing.{withRecord, long-fewer, LandingFits, Fits, Long, SameLengths, loaded-lengths, loaded-more, loaded-none, loaded-anew}
+use Rattle.sheet.specs.Underway.{Underway, stepped, underway-opened, underway-next, ended, stopped}
 use Rattle.sheet.specs.Judged.{judgedOf}
 use Rattle.sheet.specs.declared.record.Record.{Record}
 use Rattle.sheet.specs.declared.record.Record.the-variants.{OneWay, BothWays, Landing}
@@ -27,7 +26,6 @@ use Rattle.sheet.specs.declared.reading.Reading.{Reading}
 use Rattle.sheet.specs.declared.reading.Opening.the-variants.{Head as Opened}
 use Rattle.sheet.specs.declared.reading.Step.the-variants.{Next, End as Ended, Fault as Stopped}
 use Rattle.sheet.specs.declared.judge.Judged.the-variants.{Good, Fault}
-use Rattle.loader.specs.declared.Loaded.the-variants.{Sheet, Refused}
 
 -- a good sheet, with tables that are long enough for it
 pub record Loadable (s : List ℕ) (t : Tables) : Type 0 where
@@ -100,17 +98,12 @@ module _ (s : List ℕ) (t₀ : Tables) (r : Reading) (t : Tables) (l : Loading 
   long-next : (x : Record) (q : Reading) → stepOf r s ≡ Next x q → Long (l .underway .n) (length (arcs (l .underway .records ++ (x ∷ [])))) t₀
   long-next x q e =
       let u = l .underway in
-      let w = went s r u x q e in
+      let w = stepped s r u x q e in
       let g = l .loadable in
       let b = reading-extends (u .n) (u .k) (u .records ++ (x ∷ [])) (drop (headSize + sizes (u .records ++ (x ∷ []))) s) (g .n) (g .k) (g .records) (sym (w .same) ∙ g .good-sheet) in
       let count : length (arcs (g .records)) ≡ length (arcs (u .records ++ (x ∷ []))) + length (arcs (b .more)) =
       ap (λ (l' : List Record). length (arcs l')) (b .rest) ∙ ap length (arcs-append (u .records ++ (x ∷ [])) (b .more)) ∙ length-append (arcs (u .records ++ (x ∷ []))) (arcs (b .more)) in
-      record {
-        starts = omega (arith, count, g .long .starts);
-        ends = omega (arith, count, g .long .ends);
-        weights = omega (arith, count, g .long .weights);
-        landings = omega (arith, b .same-n, g .long .landings);
-      }
+      long-fewer (u .n) (length (arcs (u .records ++ (x ∷ [])))) (length (arcs (g .records))) t₀ (omega (arith, count)) (subst (λ (m : ℕ). Long m (length (arcs (g .records))) t₀) (b .same-n) (g .long))
 
   arcs-so-far : r .arcs ≡ length (arcs (l .underway .records))
   arcs-so-far = ap (λ (q : Reading). q .arcs) (l .underway .state)
@@ -118,13 +111,12 @@ module _ (s : List ℕ) (t₀ : Tables) (r : Reading) (t : Tables) (l : Loading 
   pub loading-fits : (x : Record) (q : Reading) → stepOf r s ≡ Next x q → Fits (r .arcs) x t
   loading-fits x q e =
       let u = l .underway in
-      let w = went s r u x q e in
+      let w = stepped s r u x q e in
       let h = long-next x q e in
-      let count : length (arcs (u .records ++ (x ∷ []))) ≡ length (arcs (u .records)) + length (arcsOf x) =
-      ap length (arcs-append (u .records) (x ∷ [])) ∙ omega (arith, length-append (arcs (u .records)) (arcsOf x ++ []), length-append (arcsOf x) []) in
+      let count = count-more (u .records) x in
       let same : SameLengths t t₀ =
       subst (λ (t' : Tables). SameLengths t' t₀) (sym (l .holds))
-      (loaded-lengths (u .n) (u .records) t₀ (record { starts = omega (arith, count, h .starts); ends = omega (arith, count, h .ends); weights = omega (arith, count, h .weights); landings = h .landings })) in
+      (loaded-lengths (u .n) (u .records) t₀ (long-fewer (u .n) (length (arcs (u .records))) (length (arcs (u .records ++ (x ∷ [])))) t₀ (omega (arith, count)) h)) in
       record {
         starts = omega (arith, arcs-so-far, count, same .starts, h .starts);
         ends = omega (arith, arcs-so-far, count, same .ends, h .ends);
@@ -136,7 +128,7 @@ module _ (s : List ℕ) (t₀ : Tables) (r : Reading) (t : Tables) (l : Loading 
   unfolding underway-next
   loading-next x q e t' written =
       let u = l .underway in
-      let w = went s r u x q e in
+      let w = stepped s r u x q e in
       record {
         loadable = l .loadable;
         underway = underway-next s r u x q e;
@@ -160,14 +152,14 @@ module _ (s : List ℕ) (t₀ : Tables) (r : Reading) (t : Tables) (l : Loading 
 -- ---- the whole: judged, tested, loaded
 
 -- the verdict of a sheet that is judged good
-record Found (v : Verdict) (n k arcCount : ℕ) : Type 0 where
+record JudgedGood (v : Verdict) (n k arcCount : ℕ) : Type 0 where
   records : List Record
   good-sheet : v ≡ good n k records
   count : length (arcs records) ≡ arcCount
 
-found-good : (v : Verdict) (n k arcCount : ℕ) → Good n k arcCount ≡ judgedOf v → Found v n k arcCount
-found-good (good n' k' records) n k arcCount e = record { records = records; good-sheet = cc; count = cc }
-found-good (bad f) n k arcCount e = let z : _≡_ {A = ℕ} 0 1 = cc in absurd (omega arith)
+judged-good : (v : Verdict) (n k arcCount : ℕ) → Good n k arcCount ≡ judgedOf v → JudgedGood v n k arcCount
+judged-good (good n' k' records) n k arcCount e = record { records = records; good-sheet = cc; count = cc }
+judged-good (bad f) n k arcCount e = let z : _≡_ {A = ℕ} 0 1 = cc in absurd (omega arith)
 
 and-true : (a b : Bool) → (a && b) ≡ true → (a ≡ true) × (b ≡ true)
 and-true true b e = (refl, e)
@@ -188,29 +180,29 @@ module _ (s : List ℕ) (t : Tables) where
   module _ (n k arcCount : ℕ) (e : Good n k arcCount ≡ judgedOf (verdict s)) where
     pub loadable-tested : areLong n arcCount t ≡ true → Loadable s t
     loadable-tested h =
-        let f = found-good (verdict s) n k arcCount e in
+        let f = judged-good (verdict s) n k arcCount e in
         record { n = n; k = k; records = f .records; good-sheet = f .good-sheet; long = subst (λ (m : ℕ). Long n m t) (sym (f .count)) (long-enough n arcCount t h) }
 
     after : (b : Bool) → areLong n arcCount t ≡ b
-        → (f : Found (verdict s) n k arcCount) → loadingOf s t ≡ cond b (outcome (Sheet n k arcCount) (loaded n (f .records) t)) (outcome (Refused (OfTables ShortTables)) t)
+        → (f : JudgedGood (verdict s) n k arcCount) → loadingOf s t ≡ cond b (outcome (sheet n k arcCount) (loaded n (f .records) t)) (outcome (refusal (refused ofTables shortTables 0)) t)
     after b h f =
         ap (λ (v : Verdict). afterVerdict v t) (f .good-sheet)
-        ∙ ap (λ (m : ℕ). cond (areLong n m t) (outcome (Sheet n k m) (loaded n (f .records) t)) (outcome (Refused (OfTables ShortTables)) t)) (f .count)
-        ∙ ap (λ (c : Bool). cond c (outcome (Sheet n k arcCount) (loaded n (f .records) t)) (outcome (Refused (OfTables ShortTables)) t)) h
+        ∙ ap (λ (m : ℕ). cond (areLong n m t) (outcome (sheet n k m) (loaded n (f .records) t)) (outcome (refusal (refused ofTables shortTables 0)) t)) (f .count)
+        ∙ ap (λ (c : Bool). cond c (outcome (sheet n k arcCount) (loaded n (f .records) t)) (outcome (refusal (refused ofTables shortTables 0)) t)) h
 
     pub loaded-whole : areLong n arcCount t ≡ true
-        → (t' : Tables) → t' ≡ loadedBy (verdict s) t → outcome (Sheet n k arcCount) t' ≡ loadingOf s t
+        → (t' : Tables) → t' ≡ loadedBy (verdict s) t → outcome (sheet n k arcCount) t' ≡ loadingOf s t
     loaded-whole h t' written =
-        let f = found-good (verdict s) n k arcCount e in
-        ap (outcome (Sheet n k arcCount)) (written ∙ ap (λ (v : Verdict). loadedBy v t) (f .good-sheet)) ∙ sym (after true h f)
+        let f = judged-good (verdict s) n k arcCount e in
+        ap (outcome (sheet n k arcCount)) (written ∙ ap (λ (v : Verdict). loadedBy v t) (f .good-sheet)) ∙ sym (after true h f)
 
     pub refused-short : areLong n arcCount t ≡ false
-        → outcome (Refused (OfTables ShortTables)) t ≡ loadingOf s t
-    refused-short h = sym (after false h (found-good (verdict s) n k arcCount e))
+        → outcome (refusal (refused ofTables shortTables 0)) t ≡ loadingOf s t
+    refused-short h = sym (after false h (judged-good (verdict s) n k arcCount e))
 
-  pub refused-sheet : (f : SheetFault) → Fault f ≡ judgedOf (verdict s) → outcome (Refused (OfSheet f)) t ≡ loadingOf s t
+  pub refused-sheet : (f : SheetFault) → Fault f ≡ judgedOf (verdict s) → outcome (refusal (statedSheet f)) t ≡ loadingOf s t
   refused-sheet f e = go (verdict s) e
     where
-      go : (v : Verdict) → Fault f ≡ judgedOf v → outcome (Refused (OfSheet f)) t ≡ afterVerdict v t
+      go : (v : Verdict) → Fault f ≡ judgedOf v → outcome (refusal (statedSheet f)) t ≡ afterVerdict v t
       go (good n k records) q = let z : _≡_ {A = ℕ} 0 1 = cc in absurd (omega arith)
       go (bad g) q = cc

@@ -10,8 +10,8 @@ use Rattle.lists.specs.Over.{over}
 use Rattle.sheet.specs.Arcs.{Arc, arcs}
 use Rattle.sheet.specs.Landings.{terminalSets}
 use Rattle.sheet.specs.Verdict.{Verdict, good, bad, verdict}
-use Rattle.answer.specs.declared.TableFault.the-variants.{ShortTables}
-use Rattle.answer.specs.declared.Refusal.the-variants.{Sheet as OfSheet, Tables as OfTables}
+use Rattle.limits.specs.Refusals.{shortTables}
+use Rattle.answer.specs.Stated.{Stated, refused, ofTables, statedSheet, statedRefusal}
 use Rattle.sheet.specs.declared.record.Record.{Record}
 use Rattle.loader.specs.declared.Loaded.{Loaded}
 use Rattle.loader.specs.declared.Loaded.the-variants.{Sheet, Refused}
@@ -56,17 +56,26 @@ abbrev pub loadedBy : Verdict → Tables → Tables
 loadedBy (good n k records) t = loaded n records t
 loadedBy (bad fault) t = t
 
--- what a loading returns, and the tables afterwards
+-- what a loading returns: the sites, the stations and the number of legs of the sheet, or the refusal's family, number and place
+pub data Returned : Type 0 where
+  sheet : (n k arcCount : ℕ) → Returned
+  refusal : Stated → Returned
+
+abbrev pub returned : Loaded → Returned
+returned (Sheet n k arcCount) = sheet n k arcCount
+returned (Refused r) = refusal (statedRefusal r)
+
+-- what is returned, and the tables afterwards
 pub data Outcome : Type 0 where
-  outcome : Loaded → Tables → Outcome
+  outcome : Returned → Tables → Outcome
 
 -- the sheet's refusals and 11 touch nothing
 abbrev pub afterVerdict : Verdict → Tables → Outcome
 afterVerdict (good n k records) t =
     cond (areLong n (length (arcs records)) t)
-    (outcome (Sheet n k (length (arcs records))) (loaded n records t))
-    (outcome (Refused (OfTables ShortTables)) t)
-afterVerdict (bad fault) t = outcome (Refused (OfSheet fault)) t
+    (outcome (sheet n k (length (arcs records))) (loaded n records t))
+    (outcome (refusal (refused ofTables shortTables 0)) t)
+afterVerdict (bad fault) t = outcome (refusal (statedSheet fault)) t
 
 abbrev pub loadingOf : List ℕ → Tables → Outcome
-loadingOf sheet t = afterVerdict (verdict sheet) t
+loadingOf bytes t = afterVerdict (verdict bytes) t

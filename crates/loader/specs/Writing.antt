@@ -1,7 +1,7 @@
 -- What one record writes into the tables, and that the tables then hold one record more.
 -- Assumes nothing.
 use Prim.Native.Nat.{ℕ, _+_, _≤_, _<_}
-use mathlib.Core.Path.{_≡_, refl, sym, ap, ap₂, _∙_}
+use mathlib.Core.Path.{_≡_, refl, sym, ap, ap₂, _∙_, subst}
 use mathlib.Core.Logic.{_≢_}
 use mathlib.Core.List.{List, [], _∷_, _++_, map, append-assoc, append-nil}
 use native.Mathlib.Omega.{arith}
@@ -14,8 +14,8 @@ use Rattle.lists.specs.Over.{over, over-more, over-set, over-over, getD-over, l
 use Rattle.subset.specs.Sets.{empty, single, union}
 use Rattle.sheet.specs.Arcs.{Arc, arcsOf, arcs}
 use Rattle.sheet.specs.Landings.{terminalsOf, terminalsAt, terminalSets}
-use Rattle.sheet.specs.Passed.{RecordOk}
-use Rattle.sheet.specs.Reads.{arcs-append, terminalsAt-append}
+use Rattle.sheet.specs.Records.{RecordOk}
+use Rattle.sheet.specs.Reads.{arcs-more, count-more, terminals-more}
 use Rattle.loader.specs.Tables.{Tables, tables, filled, loaded}
 use Rattle.sheet.specs.declared.record.Record.{Record}
 use Rattle.sheet.specs.declared.record.Record.the-variants.{OneWay, BothWays, Landing}
@@ -62,6 +62,16 @@ pub record Long (n arcCount : ℕ) (t : Tables) : Type 0 where
   pub weights : arcCount ≤ length (t .weights)
   pub landings : n ≤ length (t .landings)
 
+-- tables that are long enough for so many legs are long enough for fewer
+pub long-fewer : (n fewer arcCount : ℕ) (t : Tables) → fewer ≤ arcCount → Long n arcCount t → Long n fewer t
+long-fewer n fewer arcCount t h l =
+    record {
+      starts = omega (arith, l .starts);
+      ends = omega (arith, l .ends);
+      weights = omega (arith, l .weights);
+      landings = l .landings;
+    }
+
 -- ---- what the code writes, table by table
 
 module _ (i : ℕ) {start end weight : ℕ} (x : Record) (t : Tables) (starts ends weights : List ℕ) where
@@ -103,27 +113,24 @@ arc-more list a sets n t l =
     }
 
 -- several legs
-arcs-more : (bs list : List Arc) (sets : List ℕ) (n : ℕ) (t : Tables) → Long n (length list + length bs) t
+arcs-written : (bs list : List Arc) (sets : List ℕ) (n : ℕ) (t : Tables) → Long n (length list + length bs) t
     → withArcs (length list) bs (filled list sets t) ≡ filled (list ++ bs) sets t
-arcs-more [] list sets n t l = ap (λ (list' : List Arc). filled list' sets t) (sym (append-nil list))
-arcs-more (b ∷ bs) list sets n t l =
+arcs-written [] list sets n t l = ap (λ (list' : List Arc). filled list' sets t) (sym (append-nil list))
+arcs-written (b ∷ bs) list sets n t l =
     let more : length (list ++ (b ∷ [])) ≡ length list + 1 = length-append list (b ∷ []) in
     ap₂ (λ (i : ℕ) (t' : Tables). withArcs i bs t') (sym more)
-    (arc-more list b sets n t (record { starts = omega (arith, l .starts); ends = omega (arith, l .ends); weights = omega (arith, l .weights); landings = l .landings }))
-    ∙ arcs-more bs (list ++ (b ∷ [])) sets n t
-    (record { starts = omega (arith, more, l .starts); ends = omega (arith, more, l .ends); weights = omega (arith, more, l .weights); landings = l .landings })
+    (arc-more list b sets n t (long-fewer n (length list + 1) (length list + length (b ∷ bs)) t (omega arith) l))
+    ∙ arcs-written bs (list ++ (b ∷ [])) sets n t
+    (long-fewer n (length (list ++ (b ∷ [])) + length bs) (length list + length (b ∷ bs)) t (omega (arith, more)) l)
     ∙ ap (λ (list' : List Arc). filled list' sets t) (append-assoc list (b ∷ []) bs)
 
 -- a link leaves the sets of stations as they are
 sets-link : (n : ℕ) (records : List Record) (x : Record) → ((v : ℕ) → terminalsOf x v ≡ empty) → terminalSets n (records ++ (x ∷ [])) ≡ terminalSets n records
 sets-link n records x e =
     same-values (terminalsAt (records ++ (x ∷ []))) (terminalsAt records) n
-    (λ v h. terminalsAt-append records (x ∷ []) v ∙ ap (λ (w : ℕ). union (terminalsAt records v) (union w empty)) (e v) ∙ or-zero-r (terminalsAt records v))
+    (λ v h. terminals-more records x v ∙ ap (union (terminalsAt records v)) (e v) ∙ or-zero-r (terminalsAt records v))
 
 -- a landing joins the set of its site
-terminals-more : (records : List Record) (x : Record) (v : ℕ) → terminalsAt (records ++ (x ∷ [])) v ≡ union (terminalsAt records v) (terminalsOf x v)
-terminals-more records x v = terminalsAt-append records (x ∷ []) v ∙ ap (union (terminalsAt records v)) (or-zero-r (terminalsOf x v))
-
 sets-landing : (n terminal node : ℕ) (records : List Record) → node < n
     → set (terminalSets n records) node (union (terminalsAt records node) (single terminal)) ≡ terminalSets n (records ++ (Landing terminal node ∷ []))
 sets-landing n terminal node records h =
@@ -136,18 +143,13 @@ sets-landing n terminal node records h =
     elsewhere : (v : ℕ) → v ≢ node → terminalsAt records v ≡ terminalsAt (records ++ (Landing terminal node ∷ [])) v
     elsewhere v ne = sym (terminals-more records (Landing terminal node) v ∙ rw (ne-eqb node v (λ e. ne (sym e))) (or-zero-r (terminalsAt records v)))
 
-arcs-one : (records : List Record) (x : Record) → arcs (records ++ (x ∷ [])) ≡ arcs records ++ arcsOf x
-arcs-one records x = arcs-append records (x ∷ []) ∙ ap (λ (l : List Arc). arcs records ++ l) (append-nil (arcsOf x))
-
 module _ (n : ℕ) (records : List Record) (t : Tables) where
   link-more : (x : Record) → ((v : ℕ) → terminalsOf x v ≡ empty) → Long n (length (arcs (records ++ (x ∷ [])))) t
       → withArcs (length (arcs records)) (arcsOf x) (loaded n records t) ≡ loaded n (records ++ (x ∷ [])) t
   unfolding loaded
   link-more x e l =
-      let count : length (arcs (records ++ (x ∷ []))) ≡ length (arcs records) + length (arcsOf x) = ap length (arcs-one records x) ∙ length-append (arcs records) (arcsOf x) in
-      arcs-more (arcsOf x) (arcs records) (terminalSets n records) n t
-      (record { starts = omega (arith, count, l .starts); ends = omega (arith, count, l .ends); weights = omega (arith, count, l .weights); landings = l .landings })
-      ∙ ap₂ (λ (list : List Arc) (sets : List ℕ). filled list sets t) (sym (arcs-one records x)) (sym (sets-link n records x e))
+      arcs-written (arcsOf x) (arcs records) (terminalSets n records) n t (subst (λ (m : ℕ). Long n m t) (count-more records x) l)
+      ∙ ap₂ (λ (list : List Arc) (sets : List ℕ). filled list sets t) (sym (arcs-more records x)) (sym (sets-link n records x e))
 
   landing-more : (terminal node : ℕ) → node < n
       → set (over (terminalSets n records) (t .landings)) node (union (getD (over (terminalSets n records) (t .landings)) node 0) (single terminal))
@@ -175,7 +177,7 @@ module _ (n : ℕ) (records : List Record) (t : Tables) where
       }
     where
       same : arcs (records ++ (Landing terminal node ∷ [])) ≡ arcs records
-      same = arcs-one records (Landing terminal node) ∙ append-nil (arcs records)
+      same = arcs-more records (Landing terminal node) ∙ append-nil (arcs records)
 
   -- no record yet: the first n sets are empty, and nothing else is written
   pub loaded-none : loaded n [] t ≡ tables (t .starts) (t .ends) (t .weights) (replicate n 0 ++ drop n (t .landings))

@@ -14,7 +14,7 @@ ghost use Prim.Native.Nat.{_+_, _≤_, _<_};
 ghost use lib.ListN.{length, getD, drop, set, replicate};
 ghost use Rattle.limits.specs.Limits.{maxTerminals};
 ghost use Rattle.subset.specs.Sets.{union, single};
-ghost use Rattle.loader.specs.Tables.{tables, terminalsIn, longEnough, loadedBy, outcome, loadingOf};
+ghost use Rattle.loader.specs.Tables.{tables, terminalsIn, longEnough, loadedBy, returned, outcome, loadingOf};
 ghost use Rattle.loader.specs.Loading.{Loadable, Loading};
 ghost use Rattle.loader.specs.Writing.{Fits, withRecord};
 ghost use Rattle.sheet.specs.Verdict.{verdict};
@@ -77,7 +77,7 @@ fn put_arc(
     weights[i] = weight;
 }
 
-// Legs i and i + 1: there and back.
+// Legs i and i + 1: from start to end, then from end to start.
 fn put_both(
     starts: &mut [u16],
     ends: &mut [u16],
@@ -205,7 +205,7 @@ pub fn load_sheet(
     weights: &mut [u32],
     landings: &mut [u16],
 ) -> Loaded
-    ensures { λ r. ⌜ outcome r (tables (now (starts .exit)) (now (ends .exit)) (now (weights .exit)) (now (landings .exit))) ≡ loadingOf (now (sheet .entry)) (tables (now (starts .entry)) (now (ends .entry)) (now (weights .entry)) (now (landings .entry))) ⌝ }
+    ensures { λ r. ⌜ outcome (returned r) (tables (now (starts .exit)) (now (ends .exit)) (now (weights .exit)) (now (landings .exit))) ≡ loadingOf (now (sheet .entry)) (tables (now (starts .entry)) (now (ends .entry)) (now (weights .entry)) (now (landings .entry))) ⌝ }
 {
     let judged = judge(sheet);
     match judged {

@@ -21,9 +21,9 @@ use Rattle.order.specs.Order.{ofSize, orderBy, order, inOrder}
 use Rattle.order.specs.BySize.{Before, once-orderBy, length-orderBy, every-orderBy, sorted-orderBy, same-orderBy}
 
 -- the order of three stations
-three-stations : orderBy ones 3 ≡ 0 ∷ 1 ∷ 2 ∷ 4 ∷ 3 ∷ 5 ∷ 6 ∷ 7 ∷ []
+three-terminals : orderBy ones 3 ≡ 0 ∷ 1 ∷ 2 ∷ 4 ∷ 3 ∷ 5 ∷ 6 ∷ 7 ∷ []
 unfolding orderBy ofSize ones onesIn
-three-stations = refl
+three-terminals = refl
 
 pub length-order : length order ≡ maxSubsets
 unfolding order

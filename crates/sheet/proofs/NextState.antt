@@ -45,11 +45,11 @@ after-landing r {y} {terminal} {node} h same e = same-arcs ∙ ap (after r) (sym
 
 module _ (r : Reading) (s : List ℕ) where
   -- the step where a record, the end or a refusal is found
-  pub step-item : (x : Record) (y : Reading) → foundIn r (drop (r .offset) s) ≡ Item x → y ≡ after r x → Next x y ≡ stepOf r s
-  step-item x y e a = ap (Next x) a ∙ ap (stepAfter r) (sym e)
+  pub step-of-item : (x : Record) (y : Reading) → foundIn r (drop (r .offset) s) ≡ Item x → y ≡ after r x → Next x y ≡ stepOf r s
+  step-of-item x y e a = ap (Next x) a ∙ ap (stepAfter r) (sym e)
 
-  pub step-end : foundIn r (drop (r .offset) s) ≡ End → Ended ≡ stepOf r s
-  step-end e = ap (stepAfter r) (sym e)
+  pub step-of-end : foundIn r (drop (r .offset) s) ≡ End → Ended ≡ stepOf r s
+  step-of-end e = ap (stepAfter r) (sym e)
 
-  pub step-fault : (f : SheetFault) → foundIn r (drop (r .offset) s) ≡ Fault f → Stopped f ≡ stepOf r s
-  step-fault f e = ap (stepAfter r) (sym e)
+  pub step-of-fault : (f : SheetFault) → foundIn r (drop (r .offset) s) ≡ Fault f → Stopped f ≡ stepOf r s
+  step-of-fault f e = ap (stepAfter r) (sym e)

@@ -1,7 +1,8 @@
 -- The legs of a sheet, in sheet order.
 -- Assumes nothing.
 use Prim.Native.Nat.{ℕ}
-use mathlib.Core.List.{List, [], _∷_, _++_}
+use mathlib.Core.List.{List, [], _∷_}
+use Rattle.lists.specs.Joined.{joined}
 use Rattle.sheet.specs.declared.record.Record.{Record}
 use Rattle.sheet.specs.declared.record.Record.the-variants.{OneWay, BothWays, Landing}
 
@@ -22,5 +23,4 @@ arcsOf (Landing terminal node) = []
 
 -- the legs of a list of records; a leg's number is its place in this list
 abbrev pub arcs : List Record → List Arc
-arcs [] = []
-arcs (r ∷ rs) = arcsOf r ++ arcs rs
+arcs records = joined arcsOf records

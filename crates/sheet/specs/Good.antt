@@ -1,38 +1,33 @@
 -- The law beside the verdict: a byte string is a good sheet exactly where it is the bytes of a head, a list of records and `ED`, the head
--- in range, each record passing its own tests, with at most 8,192 legs and a landing for every station.
+-- in range, each record passing its own tests, with at most 8,192 legs and a landing for every station. That head and that list are unique.
 -- Assumes nothing.
 use Prim.Native.Nat.{ℕ, _+_, _≤_, _<_}
 use mathlib.Core.Path.{_≡_, refl, sym, ap, _∙_, subst, subst₂}
 use mathlib.Core.List.{List, [], _∷_, _++_, append-assoc, append-nil}
 use native.Mathlib.Omega.{arith}
 use lib.ListN.{length, drop, length-append}
-use Rattle.limits.specs.Limits.{maxNodes, maxTerminals, maxArcs}
+use Rattle.limits.specs.Limits.{minNodes, maxNodes, minTerminals, maxTerminals, maxArcs}
 use Rattle.lists.specs.Every.{Every, every-drop}
 use Rattle.subset.specs.Sets.{full}
 use Rattle.sheet.specs.FieldLaws.{Bytes}
-use Rattle.sheet.specs.Records.{headBytes, recordBytes, endBytes, headSize, size}
+use Rattle.sheet.specs.Records.{RecordOk, headBytes, recordBytes, recordsBytes, endBytes, headSize, size}
 use Rattle.sheet.specs.RecordLaws.{read-bytes, end-bytes, head-bytes, found-bytes, found-end-bytes, opening-bytes, drop-record}
 use Rattle.sheet.specs.Arcs.{arcsOf, arcs}
-use Rattle.sheet.specs.Landings.{heard}
-use Rattle.sheet.specs.Heard.{Heard, all-heard, heard-all}
+use Rattle.sheet.specs.Landings.{Heard, heard}
+use Rattle.sheet.specs.Heard.{all-heard, heard-all}
 use Rattle.sheet.specs.Verdict.{good, stateAfter, openingOf, foundIn, reading, afterHead, verdict}
-use Rattle.sheet.specs.Passed.{RecordOk, found-item, found-read, found-end, opening-opened}
+use Rattle.sheet.specs.Passed.{found-item, found-read, found-end, opening-opened}
 use Rattle.sheet.specs.Reads.{arcs-append, reading-item, reading-end, reading-extends, good-reading}
 use Rattle.sheet.specs.declared.record.Record.{Record}
 use Rattle.sheet.specs.declared.reading.Opening.{Opening}
 use Rattle.sheet.specs.declared.reading.Opening.the-variants.{Head as Opened, Fault as NotOpened}
 use Rattle.sheet.specs.declared.reading.Found.the-variants.{Item, End}
 
--- the bytes of the records, one after the other
-abbrev pub recordsBytes : List Record → List ℕ
-recordsBytes [] = []
-recordsBytes (x ∷ l) = recordBytes x ++ recordsBytes l
-
 -- the byte string is that sheet
 pub record IsSheet (s : List ℕ) (n k : ℕ) (records : List Record) : Type 0 where
   pub bytes : s ≡ headBytes n k ++ (recordsBytes records ++ endBytes)
-  pub nodes : (1 ≤ n) × (n ≤ maxNodes)
-  pub terminals : (1 ≤ k) × (k ≤ maxTerminals)
+  pub nodes : (minNodes ≤ n) × (n ≤ maxNodes)
+  pub terminals : (minTerminals ≤ k) × (k ≤ maxTerminals)
   pub each : Every (RecordOk n k) records
   pub few : length (arcs records) ≤ maxArcs
   pub heard : (i : ℕ) → i < k → Heard i records
@@ -90,7 +85,7 @@ module _ (n k n' k' : ℕ) (all : List Record) where
   left-reading : (records : List Record) (bytes : List ℕ) → reading n k records bytes ≡ good n' k' all → Bytes bytes → Left n k all records bytes
   left-reading = good-reading n k n' k' all (λ records bytes. Bytes bytes → Left n k all records bytes) left-end left-item
 
-pub good-is-sheet : (s : List ℕ) → Every (λ b. b < 256) s → (n k : ℕ) (records : List Record) → verdict s ≡ good n k records → IsSheet s n k records
+pub good-is-sheet : (s : List ℕ) → Bytes s → (n k : ℕ) (records : List Record) → verdict s ≡ good n k records → IsSheet s n k records
 unfolding verdict
 good-is-sheet s b n k records e = go (openingOf s) refl e
   where

@@ -1,4 +1,4 @@
--- Which stations a list of records lets be heard, at a site and anywhere: those that it has a landing for.
+-- Which stations are in the sets of a list of records, at a site and anywhere: those that have a landing among the records.
 -- Assumes nothing.
 use Prim.Native.Nat.{ℕ, _<_, _^_}
 use mathlib.Core.Path.{_≡_, refl, sym, ap, ap₂, subst}
@@ -9,49 +9,32 @@ use lib.Dec.{T, eqb, eqb→eq, eqb-refl}
 use borrow.Author.Tests.{eqb-true, eq-eqb}
 use Rattle.lists.specs.Every.{Every, every-mem}
 use Rattle.subset.specs.Sets.{empty, full, single, has, union}
-use Rattle.subset.specs.Stations.{has-empty, has-single}
-use Rattle.subset.specs.Parts.{part-has, part-union-left, part-union-right, union-has, stations-lt, every-full, full-every}
-use Rattle.sheet.specs.Landings.{terminalsOf, terminalsAt, heardBy, heard}
-use Rattle.sheet.specs.Passed.{RecordOk}
+use Rattle.subset.specs.Terminals.{has-empty, has-single}
+use Rattle.subset.specs.Parts.{part-has, part-union-left, part-union-right, union-has, terminals-lt, every-full, full-every}
+use Rattle.sheet.specs.Landings.{Heard, unions, terminalsOf, terminalsAt, heardBy, heard}
+use Rattle.sheet.specs.Records.{RecordOk}
 use Rattle.sheet.specs.declared.record.Record.{Record}
 use Rattle.sheet.specs.declared.record.Record.the-variants.{OneWay, BothWays, Landing}
-
--- station i has a landing among the records
-abbrev pub Heard : ℕ → List Record → Type 0
-Heard i records = (v : ℕ) × List·Memᴰ (Landing i v) records
 
 -- ---- the sets of the records, put together
 
 module _ (f : Record → ℕ) where
-  -- the stations of every record's set
-  abbrev unions : List Record → ℕ
-  unions [] = empty
-  unions (x ∷ l) = union (f x) (unions l)
-
   -- a station of it is in the set of one of the records
-  unions-has : (l : List Record) (i : ℕ) → T (has (unions l) i) → (x : Record) × List·Memᴰ x l × T (has (f x) i)
+  unions-has : (l : List Record) (i : ℕ) → T (has (unions f l) i) → (x : Record) × List·Memᴰ x l × T (has (f x) i)
   unions-has [] i t = absurd (subst T (has-empty i) t)
-  unions-has (x ∷ l) i t = go (unions-has l i) (union-has (f x) (unions l) i t)
+  unions-has (x ∷ l) i t = go (unions-has l i) (union-has (f x) (unions f l) i t)
     where
-      go : (T (has (unions l) i) → (y : Record) × List·Memᴰ y l × T (has (f y) i)) → T (has (f x) i) ⊎ T (has (unions l) i)
+      go : (T (has (unions f l) i) → (y : Record) × List·Memᴰ y l × T (has (f y) i)) → T (has (f x) i) ⊎ T (has (unions f l) i)
           → (y : Record) × List·Memᴰ y (x ∷ l) × T (has (f y) i)
       go later (inl u) = (x, List·Memᴰ·head refl, u)
       go later (inr u) = let m = later u in (m .0, List·Memᴰ·tail (m .1), m .2)
 
   -- and the stations of each record's set are in it
-  has-unions : {x : Record} {l : List Record} (i : ℕ) → List·Memᴰ x l → T (has (f x) i) → T (has (unions l) i)
+  has-unions : {x : Record} {l : List Record} (i : ℕ) → List·Memᴰ x l → T (has (f x) i) → T (has (unions f l) i)
   has-unions {x} i (List·Memᴰ·head {x = y} {xs = l} e) t =
-      part-has (f y) (union (f y) (unions l)) (part-union-left (f y) (unions l)) i (subst (λ (z : Record). T (has (f z) i)) e t)
+      part-has (f y) (union (f y) (unions f l)) (part-union-left (f y) (unions f l)) i (subst (λ (z : Record). T (has (f z) i)) e t)
   has-unions {x} i (List·Memᴰ·tail {x = y} {xs = l} m) t =
-      part-has (unions l) (union (f y) (unions l)) (part-union-right (f y) (unions l)) i (has-unions i m t)
-
-terminalsAt-unions : (l : List Record) (v : ℕ) → terminalsAt l v ≡ unions (λ (x : Record). terminalsOf x v) l
-terminalsAt-unions [] v = refl
-terminalsAt-unions (x ∷ l) v = ap (union (terminalsOf x v)) (terminalsAt-unions l v)
-
-heard-unions : (l : List Record) → heard l ≡ unions heardBy l
-heard-unions [] = refl
-heard-unions (x ∷ l) = ap (union (heardBy x)) (heard-unions l)
+      part-has (unions f l) (union (f y) (unions f l)) (part-union-right (f y) (unions f l)) i (has-unions i m t)
 
 -- ---- one record
 
@@ -86,24 +69,23 @@ has-terminalsOf v i = rw (eq-eqb v v refl) (has-single-self i)
 -- a station is in a site's set exactly where the records have that landing
 pub landing-has : (records : List Record) (v i : ℕ) → T (has (terminalsAt records v) i) → List·Memᴰ (Landing i v) records
 landing-has records v i t =
-    let m = unions-has (λ (x : Record). terminalsOf x v) records i (subst (λ (w : ℕ). T (has w i)) (terminalsAt-unions records v) t) in
+    let m = unions-has (λ (x : Record). terminalsOf x v) records i t in
     Memᴰ·cast (terminalsOf-has (m .0) v i (m .2)) (m .1)
 
 pub has-landing : (records : List Record) (v i : ℕ) → List·Memᴰ (Landing i v) records → T (has (terminalsAt records v) i)
 has-landing records v i m =
-    subst (λ (w : ℕ). T (has w i)) (sym (terminalsAt-unions records v))
-    (has-unions (λ (x : Record). terminalsOf x v) i m (has-terminalsOf v i))
+    has-unions (λ (x : Record). terminalsOf x v) i m (has-terminalsOf v i)
 
 -- a station is among the heard ones exactly where the records have a landing of it
 pub heard-has : (records : List Record) (i : ℕ) → T (has (heard records) i) → Heard i records
 heard-has records i t =
-    let m = unions-has heardBy records i (subst (λ (w : ℕ). T (has w i)) (heard-unions records) t) in
+    let m = unions-has heardBy records i t in
     let l = heardBy-has (m .0) i (m .2) in
     (l .0, Memᴰ·cast (l .1) (m .1))
 
 pub has-heard : (records : List Record) (i : ℕ) → Heard i records → T (has (heard records) i)
 has-heard records i l =
-    subst (λ (w : ℕ). T (has w i)) (sym (heard-unions records)) (has-unions heardBy i (l .1) (has-single-self i))
+    has-unions heardBy i (l .1) (has-single-self i)
 
 -- ---- records that pass their tests
 
@@ -111,11 +93,11 @@ module _ (n k : ℕ) (records : List Record) where
   -- a site's set of stations is a set for k stations
   pub terminalsAt-lt : (v : ℕ) → Every (RecordOk n k) records → terminalsAt records v < 2 ^ k
   terminalsAt-lt v each =
-      stations-lt k (terminalsAt records v) (λ i t. every-mem (RecordOk n k) each (landing-has records v i t) .0)
+      terminals-lt k (terminalsAt records v) (λ i t. every-mem (RecordOk n k) each (landing-has records v i t) .0)
 
   -- and so are the stations with a landing
   pub heard-lt : Every (RecordOk n k) records → heard records < 2 ^ k
-  heard-lt each = stations-lt k (heard records) (λ i t. every-mem (RecordOk n k) each (heard-has records i t .1) .0)
+  heard-lt each = terminals-lt k (heard records) (λ i t. every-mem (RecordOk n k) each (heard-has records i t .1) .0)
 
   -- they are all of them exactly where each station has a landing
   pub all-heard : Every (RecordOk n k) records → ((i : ℕ) → i < k → Heard i records) → heard records ≡ full k

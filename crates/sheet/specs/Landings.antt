@@ -1,15 +1,25 @@
--- The landings of a sheet: each site's set of stations, and the stations that are heard at all. A repeat counts once.
+-- The landings of a sheet: each site's set of stations, and the stations that have a landing at all. A repeat counts once.
 -- Assumes nothing.
 use Prim.Native.Nat.{ℕ}
 use mathlib.Core.Bool.{cond}
-use mathlib.Core.List.{List, [], _∷_, map}
+use mathlib.Core.List.{List, [], _∷_, map, List·Memᴰ}
 use lib.Dec.{eqb}
 use Rattle.lists.specs.Numbers.{numbers}
 use Rattle.subset.specs.Sets.{empty, single, union}
 use Rattle.sheet.specs.declared.record.Record.{Record}
 use Rattle.sheet.specs.declared.record.Record.the-variants.{OneWay, BothWays, Landing}
 
--- the stations that one record lets be heard at a site
+-- a station has a landing among the records
+abbrev pub Heard : ℕ → List Record → Type 0
+Heard i records = (v : ℕ) × List·Memᴰ (Landing i v) records
+
+-- the sets of the records, put together
+module _ (set : Record → ℕ) where
+  abbrev pub unions : List Record → ℕ
+  unions [] = empty
+  unions (x ∷ l) = union (set x) (unions l)
+
+-- the stations that have a landing at a site by one record
 abbrev pub terminalsOf : Record → ℕ → ℕ
 terminalsOf (OneWay start end weight) v = empty
 terminalsOf (BothWays start end weight) v = empty
@@ -17,19 +27,17 @@ terminalsOf (Landing terminal node) v = cond (eqb node v) (single terminal) empt
 
 -- a site's set of stations
 abbrev pub terminalsAt : List Record → ℕ → ℕ
-terminalsAt [] v = empty
-terminalsAt (r ∷ rs) v = union (terminalsOf r v) (terminalsAt rs v)
+terminalsAt records v = unions (λ x. terminalsOf x v) records
 
--- the stations that one record lets be heard anywhere
+-- the stations that have a landing anywhere by one record
 abbrev pub heardBy : Record → ℕ
 heardBy (OneWay start end weight) = empty
 heardBy (BothWays start end weight) = empty
 heardBy (Landing terminal node) = single terminal
 
--- the stations with a landing
+-- the stations that have a landing
 abbrev pub heard : List Record → ℕ
-heard [] = empty
-heard (r ∷ rs) = union (heardBy r) (heard rs)
+heard records = unions heardBy records
 
 -- each site's set of stations, by site
 abbrev pub terminalSets : ℕ → List Record → List ℕ

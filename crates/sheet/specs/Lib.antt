@@ -1,15 +1,19 @@
+-- what a reader must believe, in document 01's order
 pub mod Fields
 pub mod Records
 pub mod Arcs
 pub mod Landings
 pub mod Verdict
 pub mod Worked
+-- the law beside the verdict
 pub mod Good
-pub mod Heard
+-- laws of fields, records, landings and the reading
 pub mod FieldLaws
 pub mod RecordLaws
 pub mod Passed
+pub mod Heard
 pub mod Reads
+-- what the code keeps true while it reads, and what it returns
 pub mod Room
 pub mod Underway
 pub mod Judged

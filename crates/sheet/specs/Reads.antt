@@ -8,11 +8,12 @@ use native.Mathlib.Omega.{arith}
 use lib.ListN.{length, drop, length-append, length-drop}
 use lib.Bits.{or-zero-l, or-zero-r}
 use Rattle.answer.specs.declared.SheetFault.{SheetFault}
+use Rattle.lists.specs.Joined.{joined-append}
 use Rattle.subset.specs.Sets.{union}
 use Rattle.subset.specs.Parts.{union-assoc}
 use Rattle.sheet.specs.Records.{headSize, size}
 use Rattle.sheet.specs.Arcs.{Arc, arcsOf, arcs}
-use Rattle.sheet.specs.Landings.{terminalsOf, terminalsAt, heardBy, heard}
+use Rattle.sheet.specs.Landings.{unions, terminalsOf, terminalsAt, heardBy}
 use Rattle.sheet.specs.Verdict.{good, bad, sizes, stateAfter, after, foundIn, readFor, reading}
 use Rattle.sheet.specs.Passed.{size-low}
 use Rattle.sheet.specs.declared.record.Record.{Record}
@@ -22,37 +23,38 @@ use Rattle.sheet.specs.declared.reading.Found.the-variants.{Item, End, F
 -- ---- two lists of records, one after the other
 
 pub arcs-append : (a b : List Record) → arcs (a ++ b) ≡ arcs a ++ arcs b
-arcs-append [] b = refl
-arcs-append (x ∷ a) b = ap (λ (l : List Arc). arcsOf x ++ l) (arcs-append a b) ∙ sym (append-assoc (arcsOf x) (arcs a) (arcs b))
+arcs-append a b = joined-append arcsOf a b
 
 pub sizes-append : (a b : List Record) → sizes (a ++ b) ≡ sizes a + sizes b
 sizes-append [] b = omega arith
 sizes-append (x ∷ a) b = omega (arith, sizes-append a b)
 
-pub terminalsAt-append : (a b : List Record) (v : ℕ) → terminalsAt (a ++ b) v ≡ union (terminalsAt a v) (terminalsAt b v)
-terminalsAt-append [] b v = sym (or-zero-l (terminalsAt b v))
-terminalsAt-append (x ∷ a) b v =
-    ap (union (terminalsOf x v)) (terminalsAt-append a b v) ∙ sym (union-assoc (terminalsOf x v) (terminalsAt a v) (terminalsAt b v))
+unions-append : (set : Record → ℕ) (a b : List Record) → unions set (a ++ b) ≡ union (unions set a) (unions set b)
+unions-append set [] b = sym (or-zero-l (unions set b))
+unions-append set (x ∷ a) b =
+    ap (union (set x)) (unions-append set a b) ∙ sym (union-assoc (set x) (unions set a) (unions set b))
 
-pub heard-append : (a b : List Record) → heard (a ++ b) ≡ union (heard a) (heard b)
-heard-append [] b = sym (or-zero-l (heard b))
-heard-append (x ∷ a) b = ap (union (heardBy x)) (heard-append a b) ∙ sym (union-assoc (heardBy x) (heard a) (heard b))
+-- ---- one record more
+
+pub arcs-more : (records : List Record) (x : Record) → arcs (records ++ (x ∷ [])) ≡ arcs records ++ arcsOf x
+arcs-more records x = arcs-append records (x ∷ []) ∙ ap (λ (l : List Arc). arcs records ++ l) (append-nil (arcsOf x))
+
+pub count-more : (records : List Record) (x : Record) → length (arcs (records ++ (x ∷ []))) ≡ length (arcs records) + length (arcsOf x)
+count-more records x = ap length (arcs-more records x) ∙ length-append (arcs records) (arcsOf x)
+
+unions-more : (set : Record → ℕ) (records : List Record) (x : Record) → unions set (records ++ (x ∷ [])) ≡ union (unions set records) (set x)
+unions-more set records x = unions-append set records (x ∷ []) ∙ ap (union (unions set records)) (or-zero-r (set x))
+
+pub terminals-more : (records : List Record) (x : Record) (v : ℕ) → terminalsAt (records ++ (x ∷ [])) v ≡ union (terminalsAt records v) (terminalsOf x v)
+terminals-more records x v = unions-more (λ y. terminalsOf y v) records x
 
 -- the state after one record more
 pub state-more : (n k : ℕ) (records : List Record) (x : Record) → stateAfter n k (records ++ (x ∷ [])) ≡ after (stateAfter n k records) x
 state-more n k records x =
-    λ i. record { offset = offset-more i; n = n; k = k; arcs = arcs-more i; heard = record { 0 = heard-more i } }
+    λ i. record { offset = offset-more i; n = n; k = k; arcs = count-more records x i; heard = record { 0 = unions-more heardBy records x i } }
   where
     offset-more : headSize + sizes (records ++ (x ∷ [])) ≡ headSize + sizes records + size x
     offset-more = omega (arith, sizes-append records (x ∷ []))
-
-    arcs-more : length (arcs (records ++ (x ∷ []))) ≡ length (arcs records) + length (arcsOf x)
-    arcs-more =
-        ap length (arcs-append records (x ∷ []) ∙ ap (λ (l : List Arc). arcs records ++ l) (append-nil (arcsOf x)))
-        ∙ length-append (arcs records) (arcsOf x)
-
-    heard-more : heard (records ++ (x ∷ [])) ≡ union (heard records) (heardBy x)
-    heard-more = heard-append records (x ∷ []) ∙ ap (union (heard records)) (or-zero-r (heardBy x))
 
 -- ---- turns
 

@@ -9,19 +9,19 @@ use lib.ListN.{length, drop, drop-of-length-le, length-drop}
 use lib.Seq.{drop-drop}
 use lib.Dec.{ltb}
 use borrow.Author.Tests.{le-ltb, lt-leb, eq-eqb, ne-eqb}
-use Rattle.limits.specs.Limits.{maxNodes, maxTerminals, maxArcs, minWeight, maxWeight}
+use Rattle.limits.specs.Limits.{minNodes, maxNodes, minTerminals, maxTerminals, maxArcs, minWeight, maxWeight}
 use Rattle.limits.specs.Marks.{markHD, markLK, markBK, markST, markED}
 use Rattle.lists.specs.Every.{every-drop}
 use Rattle.subset.specs.Sets.{full}
 use Rattle.sheet.specs.Fields.{bytes16, bytes32}
 use Rattle.sheet.specs.FieldLaws.{Bytes, number16-bytes, number32-bytes, field8, field16, field32}
-use Rattle.sheet.specs.Records.{linkFields, headBytes, recordBytes, endBytes, headSize, size}
+use Rattle.sheet.specs.Records.{LinkOk, RecordOk, linkFields, headBytes, recordBytes, endBytes, headSize, size}
 use Rattle.sheet.specs.Arcs.{arcsOf}
 use Rattle.sheet.specs.Verdict.{stateAfter, headFound, openingOf, linkTests, oneWayFound, bothWaysFound, landingFound, foundIn}
-use Rattle.sheet.specs.Passed.{LinkOk, RecordOk, LinkRead, ReadFrom, EndOk, OpenedOk}
+use Rattle.sheet.specs.Passed.{LinkRead, ReadFrom, EndOk, OpenedOk}
 use Rattle.sheet.specs.declared.fields.HeadFields.the-variants.{Fields as Head}
 use Rattle.sheet.specs.declared.fields.LinkFields.the-variants.{Fields as Link}
-use Rattle.sheet.specs.declared.fields.LandingFields.the-variants.{Fields as Station}
+use Rattle.sheet.specs.declared.fields.LandingFields.the-variants.{Fields as LandingAt}
 use Rattle.sheet.specs.declared.record.Record.{Record}
 use Rattle.sheet.specs.declared.record.Record.the-variants.{OneWay, BothWays, Landing}
 use Rattle.sheet.specs.declared.reading.Reading.{Reading}
@@ -94,16 +94,16 @@ link-read start end weight rest a b c =
     (number32-bytes weight rest c i)
 
 -- a link that passes its tests is found
-link-passes : (r : Reading) (start end weight count : ℕ) (x : Record) → LinkOk (r .n) start end weight → r .arcs + count ≤ maxArcs
-    → linkTests r start end weight count x ≡ Item x
-link-passes r start end weight count x ok few =
+link-passes : (r : Reading) (start end weight : ℕ) (x : Record) → LinkOk (r .n) start end weight → r .arcs + length (arcsOf x) ≤ maxArcs
+    → linkTests r start end weight x ≡ Item x
+link-passes r start end weight x ok few =
     simp (
       lt-leb (r .n) start (ok .start-below),
       lt-leb (r .n) end (ok .end-below),
       ne-eqb start end (ok .apart),
       le-ltb weight minWeight (ok .low),
       le-ltb maxWeight weight (ok .high),
-      le-ltb maxArcs (r .arcs + count) few,
+      le-ltb maxArcs (r .arcs + length (arcsOf x)) few,
     )
 
 -- a record that passes its tests is read from its bytes, whatever follows
@@ -112,16 +112,16 @@ pub found-bytes : (r : Reading) (x : Record) (rest : List ℕ) → RecordOk (r .
 found-bytes r (OneWay start end weight) rest ok small few =
     passed (length (recordBytes (OneWay start end weight) ++ rest)) 2 _ _ (omega arith)
     ∙ ap (oneWayFound r) (link-read start end weight rest (omega arith) (omega arith) (omega arith))
-    ∙ link-passes r start end weight 1 (OneWay start end weight) ok few
+    ∙ link-passes r start end weight (OneWay start end weight) ok few
 found-bytes r (BothWays start end weight) rest ok small few =
     passed (length (recordBytes (BothWays start end weight) ++ rest)) 2 _ _ (omega arith)
     ∙ ap (bothWaysFound r) (link-read start end weight rest (omega arith) (omega arith) (omega arith))
-    ∙ link-passes r start end weight 2 (BothWays start end weight) ok few
+    ∙ link-passes r start end weight (BothWays start end weight) ok few
 found-bytes r (Landing terminal node) rest ok small few =
     passed (length (recordBytes (Landing terminal node) ++ rest)) 2 _ _ (omega arith)
     ∙ ap (landingFound r)
     (passed (length ((terminal ∷ []) ++ bytes16 node ++ rest)) 3 _ _ (omega arith)
-    ∙ ap (Station terminal) (number16-bytes node rest (omega arith)))
+    ∙ ap (LandingAt terminal) (number16-bytes node rest (omega arith)))
     ∙ simp (lt-leb (r .k) terminal (ok .0), lt-leb (r .n) node (ok .1))
 
 -- the end is read from its bytes where every station has a landing
@@ -129,14 +129,14 @@ pub found-end-bytes : (r : Reading) → r .heard .0 ≡ full (r .k) → foundIn 
 found-end-bytes r e = simp (eq-eqb (r .heard .0) (full (r .k)) e)
 
 -- a head in range is read from its bytes, whatever follows
-pub opening-bytes : (n k : ℕ) (rest : List ℕ) → (1 ≤ n) × (n ≤ maxNodes) → (1 ≤ k) × (k ≤ maxTerminals)
+pub opening-bytes : (n k : ℕ) (rest : List ℕ) → (minNodes ≤ n) × (n ≤ maxNodes) → (minTerminals ≤ k) × (k ≤ maxTerminals)
     → openingOf (headBytes n k ++ rest) ≡ Opened (stateAfter n k [])
 opening-bytes n k rest nodes terminals =
     passed (length (headBytes n k ++ rest)) 2 _ _ (omega arith)
     ∙ ap headFound
     (passed (length (bytes16 n ++ (k ∷ []) ++ rest)) 3 _ _ (omega arith)
     ∙ ap (λ (m : ℕ). Head m k) (number16-bytes n ((k ∷ []) ++ rest) (omega arith)))
-    ∙ simp (le-ltb n 1 (nodes .0), le-ltb maxNodes n (nodes .1), le-ltb k 1 (terminals .0), le-ltb maxTerminals k (terminals .1))
+    ∙ simp (le-ltb n minNodes (nodes .0), le-ltb maxNodes n (nodes .1), le-ltb k minTerminals (terminals .0), le-ltb maxTerminals k (terminals .1))
 
 -- and the rest of the bytes is what follows
 pub drop-record : (x : Record) (rest : List ℕ) → drop (size x) (recordBytes x ++ rest) ≡ rest

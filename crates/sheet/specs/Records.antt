@@ -1,18 +1,21 @@
--- The records of a sheet: the fields of each, read from the bytes after its mark, and the bytes that it takes.
+-- The records of a sheet: the fields of each, read from the bytes after its mark, the bytes that it takes, and its own tests.
 -- Assumes nothing.
-use Prim.Native.Nat.{ℕ}
+use Prim.Native.Nat.{ℕ, _≤_, _<_}
+use mathlib.Core.Path.{_≡_}
 use mathlib.Core.Bool.{cond}
 use mathlib.Core.List.{List, [], _∷_, _++_}
 use lib.ListN.{length}
 use lib.Dec.{ltb}
+use Rattle.limits.specs.Limits.{minWeight, maxWeight}
 use Rattle.limits.specs.Marks.{markHD, markLK, markBK, markST, markED}
+use Rattle.lists.specs.Joined.{joined}
 use Rattle.sheet.specs.Fields.{number8, number16, number32, bytes16, bytes32}
 use Rattle.sheet.specs.declared.fields.HeadFields.{HeadFields}
 use Rattle.sheet.specs.declared.fields.HeadFields.the-variants.{Short as NoHead, Fields as Head}
 use Rattle.sheet.specs.declared.fields.LinkFields.{LinkFields}
 use Rattle.sheet.specs.declared.fields.LinkFields.the-variants.{Short as NoLink, Fields as Link}
 use Rattle.sheet.specs.declared.fields.LandingFields.{LandingFields}
-use Rattle.sheet.specs.declared.fields.LandingFields.the-variants.{Short as NoStation, Fields as Station}
+use Rattle.sheet.specs.declared.fields.LandingFields.the-variants.{Short as NoLanding, Fields as LandingAt}
 use Rattle.sheet.specs.declared.record.Record.{Record}
 use Rattle.sheet.specs.declared.record.Record.the-variants.{OneWay, BothWays, Landing}
 
@@ -26,7 +29,7 @@ linkFields bytes = cond (ltb (length bytes) 8) NoLink (Link (number16 bytes 0) (
 
 -- `ST`: station (1), site (2)
 abbrev pub landingFields : List ℕ → LandingFields
-landingFields bytes = cond (ltb (length bytes) 3) NoStation (Station (number8 bytes 0) (number16 bytes 1))
+landingFields bytes = cond (ltb (length bytes) 3) NoLanding (LandingAt (number8 bytes 0) (number16 bytes 1))
 
 -- the bytes of the head, of a record and of the end
 abbrev pub headBytes : ℕ → ℕ → List ℕ
@@ -48,3 +51,22 @@ abbrev pub size : Record → ℕ
 size (OneWay start end weight) = 10
 size (BothWays start end weight) = 10
 size (Landing terminal node) = 5
+
+-- the bytes of several records, one after the other
+abbrev pub recordsBytes : List Record → List ℕ
+recordsBytes records = joined recordBytes records
+
+-- ---- a record passes its own tests
+
+-- the sites of a link are on the sheet and differ, and its price is in range
+pub record LinkOk (n start end weight : ℕ) : Type 0 where
+  pub start-below : start < n
+  pub end-below : end < n
+  pub apart : start ≡ end → ⊥
+  pub low : minWeight ≤ weight
+  pub high : weight ≤ maxWeight
+
+abbrev pub RecordOk : ℕ → ℕ → Record → Type 0
+RecordOk n k (OneWay start end weight) = LinkOk n start end weight
+RecordOk n k (BothWays start end weight) = LinkOk n start end weight
+RecordOk n k (Landing terminal node) = (terminal < k) × (node < n)

@@ -5,9 +5,9 @@ use mathlib.Core.List.{List}
 use native.Mathlib.Omega.{arith}
 use lib.ListN.{length, drop, length-drop}
 use Rattle.limits.specs.Limits.{maxTerminals, maxArcs}
-use Rattle.sheet.specs.Records.{size}
+use Rattle.sheet.specs.Records.{size, RecordOk}
 use Rattle.sheet.specs.Arcs.{arcsOf}
-use Rattle.sheet.specs.Passed.{RecordOk, Passed}
+use Rattle.sheet.specs.Passed.{Passed}
 use Rattle.sheet.specs.declared.record.Record.{Record}
 use Rattle.sheet.specs.declared.reading.Reading.{Reading}
 

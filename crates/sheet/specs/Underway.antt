@@ -8,10 +8,10 @@ use lib.ListN.{length, drop, length-drop}
 use lib.Seq.{drop-drop}
 use Rattle.limits.specs.Limits.{maxTerminals, maxArcs}
 use Rattle.answer.specs.declared.SheetFault.{SheetFault}
-use Rattle.sheet.specs.Records.{headSize, size}
+use Rattle.sheet.specs.Records.{headSize, size, RecordOk}
 use Rattle.sheet.specs.Arcs.{arcs}
 use Rattle.sheet.specs.Verdict.{good, bad, sizes, stateAfter, after, openingOf, foundIn, stepAfter, stepOf, reading, afterHead, verdict}
-use Rattle.sheet.specs.Passed.{found-item, size-low, opening-opened, RecordOk}
+use Rattle.sheet.specs.Passed.{found-item, size-low, opening-opened}
 use Rattle.sheet.specs.Reads.{state-more, reading-item, reading-end, reading-fault}
 use Rattle.sheet.specs.declared.record.Record.{Record}
 use Rattle.sheet.specs.declared.reading.Reading.{Reading}
@@ -85,16 +85,16 @@ module _ (s : List ℕ) (r : Reading) (u : Underway s r) where
   step-here p e = ap (λ (q : Reading). stepOf q s) (sym (u .state)) ∙ e
 
   -- a step that goes on: its record passes its tests, and the state is that after it
-  pub record Went (x : Record) (q : Reading) : Type 0 where
+  pub record Stepped (x : Record) (q : Reading) : Type 0 where
     pub state : q ≡ stateAfter (u .n) (u .k) (u .records ++ (x ∷ []))
     pub ok : RecordOk (u .n) (u .k) x
     pub few : length (arcs (u .records ++ (x ∷ []))) ≤ maxArcs
     pub within : headSize + sizes (u .records ++ (x ∷ [])) ≤ length s
     pub same : verdict s ≡ reading (u .n) (u .k) (u .records ++ (x ∷ [])) (drop (headSize + sizes (u .records ++ (x ∷ []))) s)
 
-  pub went : (x : Record) (q : Reading) → stepOf r s ≡ Next x q → Went x q
+  pub stepped : (x : Record) (q : Reading) → stepOf r s ≡ Next x q → Stepped x q
   unfolding at left
-  went x q e =
+  stepped x q e =
       let f = step-next at (foundIn at left) x q (step-here (Next x q) e) in
       let p = found-item at left x (f .0) in
       let m = state-more (u .n) (u .k) (u .records) x in
@@ -112,7 +112,7 @@ module _ (s : List ℕ) (r : Reading) (u : Underway s r) where
 
   unfoldable pub underway-next : (x : Record) (q : Reading) → stepOf r s ≡ Next x q → Underway s q
   underway-next x q e =
-      let w = went x q e in
+      let w = stepped x q e in
       record {
         n = u .n;
         k = u .k;
@@ -127,7 +127,7 @@ module _ (s : List ℕ) (r : Reading) (u : Underway s r) where
   -- what is left falls
   pub falls : (x : Record) (q : Reading) → stepOf r s ≡ Next x q → length s - q .offset < length s - r .offset
   falls x q e =
-      let w = went x q e in
+      let w = stepped x q e in
       let o = ap (λ (z : Reading). z .offset) (state-more (u .n) (u .k) (u .records) x) in
       let a = ap (λ (z : Reading). z .offset) (u .state) in
       let b = ap (λ (z : Reading). z .offset) (w .state) in

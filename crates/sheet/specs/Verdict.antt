@@ -6,7 +6,7 @@ use mathlib.Core.Bool.{cond, not}
 use mathlib.Core.List.{List, [], _∷_, _++_}
 use lib.ListN.{length, drop}
 use lib.Dec.{ltb, leb, eqb}
-use Rattle.limits.specs.Limits.{maxNodes, maxTerminals, maxArcs, minWeight, maxWeight}
+use Rattle.limits.specs.Limits.{minNodes, maxNodes, minTerminals, maxTerminals, maxArcs, minWeight, maxWeight}
 use Rattle.limits.specs.Marks.{markHD, markLK, markBK, markST, markED}
 use Rattle.answer.specs.declared.SheetFault.{SheetFault}
 use Rattle.answer.specs.declared.SheetFault.the-variants.{ShortSheet, StrangeMark, BadHead, NoSuchSite, NoSuchStation, Loop, BadPrice, TooManyLegs, AfterTheEnd, Unheard}
@@ -20,7 +20,7 @@ use Rattle.sheet.specs.declared.fields.HeadFields.the-variants.{Short as
 use Rattle.sheet.specs.declared.fields.LinkFields.{LinkFields}
 use Rattle.sheet.specs.declared.fields.LinkFields.the-variants.{Short as NoLink, Fields as Link}
 use Rattle.sheet.specs.declared.fields.LandingFields.{LandingFields}
-use Rattle.sheet.specs.declared.fields.LandingFields.the-variants.{Short as NoStation, Fields as Station}
+use Rattle.sheet.specs.declared.fields.LandingFields.the-variants.{Short as NoLanding, Fields as LandingAt}
 use Rattle.sheet.specs.declared.record.Record.{Record}
 use Rattle.sheet.specs.declared.record.Record.the-variants.{OneWay, BothWays, Landing}
 use Rattle.sheet.specs.declared.reading.Reading.{Reading}
@@ -31,6 +31,7 @@ use Rattle.sheet.specs.declared.reading.Found.the-variants.{Item, End, F
 use Rattle.sheet.specs.declared.reading.Step.{Step}
 use Rattle.sheet.specs.declared.reading.Step.the-variants.{Next, End as Ended, Fault as Stopped}
 
+-- a good sheet with its sites, stations and records, or the first refusal
 pub data Verdict : Type 0 where
   good : (n k : ℕ) → List Record → Verdict
   bad : SheetFault → Verdict
@@ -62,9 +63,9 @@ after r x =
 
 abbrev pub headTests : ℕ → ℕ → Opening
 headTests n k =
-    cond (ltb n 1) (NotOpened (BadHead 0))
+    cond (ltb n minNodes) (NotOpened (BadHead 0))
     (cond (ltb maxNodes n) (NotOpened (BadHead 0))
-    (cond (ltb k 1) (NotOpened (BadHead 0))
+    (cond (ltb k minTerminals) (NotOpened (BadHead 0))
     (cond (ltb maxTerminals k) (NotOpened (BadHead 0))
     (Opened (stateAfter n k [])))))
 
@@ -80,31 +81,31 @@ openingOf sheet =
 
 -- ---- one record: mark, length, then its own tests
 
--- links: from (4), to (4), 6, 7, 8, where the record would add `count` legs
-abbrev pub linkTests : Reading → ℕ → ℕ → ℕ → ℕ → Record → Found
-linkTests r start end weight count x =
+-- links: from (4), to (4), 6, 7, and 8 where the legs of the record would pass the most
+abbrev pub linkTests : Reading → ℕ → ℕ → ℕ → Record → Found
+linkTests r start end weight x =
     cond (leb (r .n) start) (Fault (NoSuchSite (r .offset)))
     (cond (leb (r .n) end) (Fault (NoSuchSite (r .offset)))
     (cond (eqb start end) (Fault (Loop (r .offset)))
     (cond (ltb weight minWeight) (Fault (BadPrice (r .offset)))
     (cond (ltb maxWeight weight) (Fault (BadPrice (r .offset)))
-    (cond (ltb maxArcs (r .arcs + count)) (Fault (TooManyLegs (r .offset)))
+    (cond (ltb maxArcs (r .arcs + length (arcsOf x))) (Fault (TooManyLegs (r .offset)))
     (Item x))))))
 
 -- `LK`
 abbrev pub oneWayFound : Reading → LinkFields → Found
 oneWayFound r NoLink = Fault (ShortSheet (r .offset))
-oneWayFound r (Link start end weight) = linkTests r start end weight 1 (OneWay start end weight)
+oneWayFound r (Link start end weight) = linkTests r start end weight (OneWay start end weight)
 
 -- `BK`
 abbrev pub bothWaysFound : Reading → LinkFields → Found
 bothWaysFound r NoLink = Fault (ShortSheet (r .offset))
-bothWaysFound r (Link start end weight) = linkTests r start end weight 2 (BothWays start end weight)
+bothWaysFound r (Link start end weight) = linkTests r start end weight (BothWays start end weight)
 
 -- `ST`: 5, 4
 abbrev pub landingFound : Reading → LandingFields → Found
-landingFound r NoStation = Fault (ShortSheet (r .offset))
-landingFound r (Station terminal node) =
+landingFound r NoLanding = Fault (ShortSheet (r .offset))
+landingFound r (LandingAt terminal node) =
     cond (leb (r .k) terminal) (Fault (NoSuchStation (r .offset)))
     (cond (leb (r .n) node) (Fault (NoSuchSite (r .offset)))
     (Item (Landing terminal node)))

@@ -5,24 +5,25 @@ ghost use lib.ListN.{length};
 ghost use Rattle.sheet.specs.Fields.{number16, number32};
 ghost use Rattle.sheet.specs.Records.{headFields, linkFields, landingFields};
 
-// The sites and stations of `HD`.
+// What `HD` says: sites, stations.
 pub enum HeadFields {
     Short,
     Fields { n: u16, k: u8 },
 }
 
-// The fields of `LK` and `BK`: from, to, price.
+// What `LK` and `BK` say: from, to, price.
 pub enum LinkFields {
     Short,
     Fields { start: u16, end: u16, weight: u32 },
 }
 
-// The fields of `ST`: station, site.
+// What `ST` says: station, site.
 pub enum LandingFields {
     Short,
     Fields { terminal: u8, node: u16 },
 }
 
+// The number of two bytes at a place.
 pub fn u16_at(bytes: &[u8], at: usize) -> u16
     requires { ⌜ at + 1 < length (now bytes) ⌝ }
     ensures { λ r. ⌜ r ≡ number16 (now (bytes .entry)) at ⌝ }
@@ -30,6 +31,7 @@ pub fn u16_at(bytes: &[u8], at: usize) -> u16
     (bytes[at] as u16) * 256 + (bytes[at + 1] as u16)
 }
 
+// The number of four bytes at a place.
 pub fn u32_at(bytes: &[u8], at: usize) -> u32
     requires { ⌜ at + 3 < length (now bytes) ⌝ }
     ensures { λ r. ⌜ r ≡ number32 (now (bytes .entry)) at ⌝ }
@@ -37,6 +39,7 @@ pub fn u32_at(bytes: &[u8], at: usize) -> u32
     (u16_at(bytes, at) as u32) * 65536 + (u16_at(bytes, at + 2) as u32)
 }
 
+// The fields of `HD`, where the bytes after the mark are long enough.
 pub fn head_fields(fields: &[u8]) -> HeadFields
     ensures { λ r. ⌜ r ≡ headFields (now (fields .entry)) ⌝ }
 {
@@ -49,6 +52,7 @@ pub fn head_fields(fields: &[u8]) -> HeadFields
     }
 }
 
+// The fields of `LK` and `BK`.
 pub fn link_fields(fields: &[u8]) -> LinkFields
     ensures { λ r. ⌜ r ≡ linkFields (now (fields .entry)) ⌝ }
 {
@@ -62,6 +66,7 @@ pub fn link_fields(fields: &[u8]) -> LinkFields
     }
 }
 
+// The fields of `ST`.
 pub fn landing_fields(fields: &[u8]) -> LandingFields
     ensures { λ r. ⌜ r ≡ landingFields (now (fields .entry)) ⌝ }
 {

@@ -16,6 +16,7 @@ ghost use Rattle.limits.specs.Limits.{maxTerminals, maxArcs};
 ghost use Rattle.sheet.specs.Records.{linkFields, landingFields};
 ghost use Rattle.sheet.specs.Verdict.{headTests, openingOf, linkTests, oneWayFound, bothWaysFound, landingFound, endFound, foundIn, after, stepOf};
 ghost use Rattle.sheet.specs.Room.{Room};
+ghost use Rattle.sheet.specs.Arcs.{arcsOf};
 
 // Where the reading stands: the offset of the next record, sites and stations of the head, and the legs and heard stations so far.
 pub struct Reading {
@@ -49,13 +50,13 @@ pub enum Step {
 fn head_state(n: u16, k: u8) -> Opening
     ensures { λ r. ⌜ r ≡ headTests n k ⌝ }
 {
-    if n < 1 {
+    if n < limits::MIN_NODES {
         return Opening::Fault(SheetFault::BadHead(0));
     }
     if limits::MAX_NODES < n {
         return Opening::Fault(SheetFault::BadHead(0));
     }
-    if k < 1 {
+    if k < limits::MIN_TERMINALS {
         return Opening::Fault(SheetFault::BadHead(0));
     }
     if limits::MAX_TERMINALS < k {
@@ -91,8 +92,8 @@ impl Reading {
 
     // The tests of a link, in their order; `count` is the number of its legs.
     fn tested_link(self, start: u16, end: u16, weight: u32, count: u16, item: Record) -> Found
-        requires { ⌜ (self .arcs ≤ maxArcs) × (count ≤ 2) ⌝ }
-        ensures { λ r. ⌜ r ≡ linkTests self start end weight count item ⌝ }
+        requires { ⌜ (self .arcs ≤ maxArcs) × (count ≤ 2) × (count ≡ length (arcsOf item)) ⌝ }
+        ensures { λ r. ⌜ r ≡ linkTests self start end weight item ⌝ }
     {
         let at = self.offset;
         if self.n <= start {

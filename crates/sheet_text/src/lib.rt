@@ -6,12 +6,12 @@ use libc::STDOUT_FILENO;
 use loader::Loaded;
 use loader::terminals_in;
 
-// A text.
+// Writes a text to standard output.
 pub fn print(text: &[u8]) {
     io::write_all(STDOUT_FILENO, text);
 }
 
-// A text and the number after it.
+// Writes a text and the number after it.
 pub fn print_field(text: &[u8], value: u64) {
     io::write_all(STDOUT_FILENO, text);
     io::print_decimal(STDOUT_FILENO, value);

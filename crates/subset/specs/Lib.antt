@@ -1,4 +1,4 @@
 pub mod Sets
-pub mod Stations
+pub mod Terminals
 pub mod Parts
 pub mod Sizes

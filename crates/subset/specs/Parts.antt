@@ -14,7 +14,7 @@ use lib.Pow.{lt-of-le-ones}
 use lib.Bits.{bitAnd, and-step, and-comm, and-le-r, and-le-l, and-zero-l, and-mask, or-disjoint}
 use borrow.Author.Tests.{eq-eqb, eqb-true}
 use Rattle.subset.specs.Sets.{full, single, has, Part, isPart, rest, union}
-use Rattle.subset.specs.Stations.{has-zero, has-suc, has-and, has-union, has-rest, has-single, has-full}
+use Rattle.subset.specs.Terminals.{has-zero, has-suc, has-and, has-union, has-rest, has-single, has-full}
 
 -- ---- a part, and its stations
 
@@ -60,8 +60,8 @@ pub part-antisym : (a b : ℕ) → Part a b → Part b a → a ≡ b
 part-antisym a b p q = sym p ∙ and-comm a b ∙ q
 
 -- two sets with the same stations are equal
-pub same-stations : (a b : ℕ) → ((i : ℕ) → has a i ≡ has b i) → a ≡ b
-same-stations a b h =
+pub same-terminals : (a b : ℕ) → ((i : ℕ) → has a i ≡ has b i) → a ≡ b
+same-terminals a b h =
     part-antisym a b (has-part a b (λ i t. subst T (h i) t)) (has-part b a (λ i t. subst T (sym (h i)) t))
 
 pub part-le : (y w : ℕ) → Part y w → y ≤ w
@@ -85,8 +85,8 @@ pub part-lt : (k w : ℕ) → Part w (full k) → w < 2 ^ k
 part-lt k w p = lt-of-le-ones k (part-le w (full k) p)
 
 -- a set whose stations are below k is below 2^k
-pub stations-lt : (k w : ℕ) → ((i : ℕ) → T (has w i) → i < k) → w < 2 ^ k
-stations-lt k w h = part-lt k w (has-part w (full k) (λ i t. subst T (sym (has-full k i)) (lt→ltb i k (h i t))))
+pub terminals-lt : (k w : ℕ) → ((i : ℕ) → T (has w i) → i < k) → w < 2 ^ k
+terminals-lt k w h = part-lt k w (has-part w (full k) (λ i t. subst T (sym (has-full k i)) (lt→ltb i k (h i t))))
 
 -- a set below 2^k is the full set exactly where it has every station below k
 pub every-full : (k w : ℕ) → w < 2 ^ k → ((i : ℕ) → i < k → T (has w i)) → w ≡ full k
@@ -104,7 +104,7 @@ or-cases false b t = inr t
 
 -- the union of three sets, however they are grouped
 pub union-assoc : (a b c : ℕ) → union (union a b) c ≡ union a (union b c)
-union-assoc a b c = same-stations (union (union a b) c) (union a (union b c)) λ i.
+union-assoc a b c = same-terminals (union (union a b) c) (union a (union b c)) λ i.
     has-union (union a b) c i ∙ ap (λ (t : Bool). t || has c i) (has-union a b i) ∙ regroup (has a i) (has b i) (has c i)
     ∙ sym (has-union a (union b c) i ∙ ap (λ (t : Bool). has a i || t) (has-union b c i))
   where
@@ -166,7 +166,7 @@ rest-part = bin-ind (λ (w : ℕ). (y : ℕ) → Part (rest w y) w) (λ y. refl)
         let t = and-step (rest w y) w in
         omega (arith, ap (λ (x : ℕ). bitAnd x (w / 2)) e)
 
--- the same of the difference
+-- the stations of the difference
 pub has-difference : (w y i : ℕ) → Part y w → has (w - y) i ≡ (has w i && not (has y i))
 has-difference w y i p = ap (λ (x : ℕ). has x i) (sym (rest-difference w y p)) ∙ has-rest w y i
 

@@ -8,7 +8,7 @@ use lib.Arith.{bin-ind}
 use lib.Bits.{and-step, and-le-l, and-zero-r}
 use lib.Count.{ones, ones-step, ones-ones}
 use Rattle.subset.specs.Sets.{empty, single, Part}
-use Rattle.subset.specs.Stations.{single-half, single-even}
+use Rattle.subset.specs.Terminals.{single-half, single-even}
 use Rattle.subset.specs.Parts.{part-le}
 
 pub ones-empty : ones empty ≡ 0

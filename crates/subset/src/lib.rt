@@ -5,6 +5,7 @@ ghost use lib.Count.{ones};
 ghost use Rattle.limits.specs.Limits.{maxTerminals};
 ghost use Rattle.subset.specs.Sets.{full, single, has, isPart, rest, union};
 
+// A set of stations, as its number.
 pub struct Subset(pub u16);
 
 impl Subset {

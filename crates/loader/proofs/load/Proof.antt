@@ -22,10 +22,18 @@ cast-clear-landings : tie.Need-cast-clear-landings
 cast-clear-landings c = search needs
 
 clear-landings-requires : tie.Need-clear-landings-requires
-clear-landings-requires c κs = nodes-fit (now (c .before .before .before .before .before .before .before .before .before .before .args .sheet)) (tables (now (c .before .before .before .before .before .before .before .before .before .before .args .starts)) (now (c .before .before .before .before .before .before .before .before .before .before .args .ends)) (now (c .before .before .before .before .before .before .before .before .before .before .args .weights)) (now (c .before .before .before .before .before .before .before .before .before .before .args .landings))) _ (c .before .before .before .before .before .before .before .before .before .before .pre) (sym (c .before .before .before .before .begin .ensures) ∙ c .before .before .opening .given .1)
+clear-landings-requires c κs =
+    let a = c .before .before .before .before .before .before .before .before .before .before .args in
+    let t = tables (now (a .starts)) (now (a .ends)) (now (a .weights)) (now (a .landings)) in
+    nodes-fit (now (a .sheet)) t _ (c .before .before .before .before .before .before .before .before .before .before .pre) (sym (c .before .before .before .before .begin .ensures) ∙ c .before .before .opening .given .1)
 
 load-records-requires : tie.Need-load-records-requires
-load-records-requires c κs = subst (λ (l : List ℕ). Loading (now (c .before .before .before .before .before .before .before .before .before .before .before .before .before .before .before .before .before .args .sheet)) (tables (now (c .before .before .before .before .before .before .before .before .before .before .before .before .before .before .before .before .before .args .starts)) (now (c .before .before .before .before .before .before .before .before .before .before .before .before .before .before .before .before .before .args .ends)) (now (c .before .before .before .before .before .before .before .before .before .before .before .before .before .before .before .before .before .args .weights)) l) (c .before .before .before .before .before .before .before .before .before .opening .given .0 .0) (tables (now (c .before .before .before .before .before .before .before .before .before .before .before .before .before .before .before .before .before .args .starts)) (now (c .before .before .before .before .before .before .before .before .before .before .before .before .before .before .before .before .before .args .ends)) (now (c .before .before .before .before .before .before .before .before .before .before .before .before .before .before .before .before .before .args .weights)) l)) (sym (c .before .before .before .before .before .before .clear-landings .ensures)) (loading-opened (now (c .before .before .before .before .before .before .before .before .before .before .before .before .before .before .before .before .before .args .sheet)) (tables (now (c .before .before .before .before .before .before .before .before .before .before .before .before .before .before .before .before .before .args .starts)) (now (c .before .before .before .before .before .before .before .before .before .before .before .before .before .before .before .before .before .args .ends)) (now (c .before .before .before .before .before .before .before .before .before .before .before .before .before .before .before .before .before .args .weights)) (now (c .before .before .before .before .before .before .before .before .before .before .before .before .before .before .before .before .before .args .landings))) _ (c .before .before .before .before .before .before .before .before .before .before .before .before .before .before .before .before .before .pre) (sym (c .before .before .before .before .before .before .before .before .before .before .before .begin .ensures) ∙ c .before .before .before .before .before .before .before .before .before .opening .given .1))
+load-records-requires c κs =
+    let a = c .before .before .before .before .before .before .before .before .before .before .before .before .before .before .before .before .before .args in
+    let t = tables (now (a .starts)) (now (a .ends)) (now (a .weights)) (now (a .landings)) in
+    let r = c .before .before .before .before .before .before .before .before .before .opening .given .0 .0 in
+    subst (λ (l : List ℕ). Loading (now (a .sheet)) (tables (now (a .starts)) (now (a .ends)) (now (a .weights)) l) r (tables (now (a .starts)) (now (a .ends)) (now (a .weights)) l)) (sym (c .before .before .before .before .before .before .clear-landings .ensures))
+    (loading-opened (now (a .sheet)) t r (c .before .before .before .before .before .before .before .before .before .before .before .before .before .before .before .before .before .pre) (sym (c .before .before .before .before .before .before .before .before .before .before .before .begin .ensures) ∙ c .before .before .before .before .before .before .before .before .before .opening .given .1))
 
 enum-told : tie.Need-enum-told
 enum-told c = search needs
@@ -43,10 +51,18 @@ same-length-4 : tie.Need-same-length-4
 same-length-4 c = search needs
 
 returns : tie.Need-returns
-returns c = c .before .before .before .before .before .before .before .before .load-records .ensures ∙ ap (λ (l : List ℕ). loadedBy (verdict (now (c .before .before .before .before .before .before .before .before .before .before .before .before .before .before .before .before .before .before .before .before .before .before .before .before .before .before .args .sheet))) (tables (now (c .before .before .before .before .before .before .before .before .before .before .before .before .before .before .before .before .before .before .before .before .before .before .before .before .before .before .args .starts)) (now (c .before .before .before .before .before .before .before .before .before .before .before .before .before .before .before .before .before .before .before .before .before .before .before .before .before .before .args .ends)) (now (c .before .before .before .before .before .before .before .before .before .before .before .before .before .before .before .before .before .before .before .before .before .before .before .before .before .before .args .weights)) l)) (c .before .before .before .before .before .before .before .before .before .before .before .before .before .before .before .clear-landings .ensures) ∙ loaded-cleared (now (c .before .before .before .before .before .before .before .before .before .before .before .before .before .before .before .before .before .before .before .before .before .before .before .before .before .before .args .sheet)) (tables (now (c .before .before .before .before .before .before .before .before .before .before .before .before .before .before .before .before .before .before .before .before .before .before .before .before .before .before .args .starts)) (now (c .before .before .before .before .before .before .before .before .before .before .before .before .before .before .before .before .before .before .before .before .before .before .before .before .before .before .args .ends)) (now (c .before .before .before .before .before .before .before .before .before .before .before .before .before .before .before .before .before .before .before .before .before .before .before .before .before .before .args .weights)) (now (c .before .before .before .before .before .before .before .before .before .before .before .before .before .before .before .before .before .before .before .before .before .before .before .before .before .before .args .landings))) _ (c .before .before .before .before .before .before .before .before .before .before .before .before .before .before .before .before .before .before .before .before .before .before .before .before .before .before .pre) (sym (c .before .before .before .before .before .before .before .before .before .before .before .before .before .before .before .before .before .before .before .before .begin .ensures) ∙ c .before .before .before .before .before .before .before .before .before .before .before .before .before .before .before .before .before .before .opening .given .1)
+returns c =
+    let a = c .before .before .before .before .before .before .before .before .before .before .before .before .before .before .before .before .before .before .before .before .before .before .before .before .before .before .args in
+    let t = tables (now (a .starts)) (now (a .ends)) (now (a .weights)) (now (a .landings)) in
+    c .before .before .before .before .before .before .before .before .load-records .ensures
+    ∙ ap (λ (l : List ℕ). loadedBy (verdict (now (a .sheet))) (tables (now (a .starts)) (now (a .ends)) (now (a .weights)) l)) (c .before .before .before .before .before .before .before .before .before .before .before .before .before .before .before .clear-landings .ensures)
+    ∙ loaded-cleared (now (a .sheet)) t _ (c .before .before .before .before .before .before .before .before .before .before .before .before .before .before .before .before .before .before .before .before .before .before .before .before .before .before .pre) (sym (c .before .before .before .before .before .before .before .before .before .before .before .before .before .before .before .before .before .before .before .before .begin .ensures) ∙ c .before .before .before .before .before .before .before .before .before .before .before .before .before .before .before .before .before .before .opening .given .1)
 
 returns-2 : tie.Need-returns-2
-returns-2 c = ap (λ (v : Verdict). loadedBy v (tables (now (c .before .before .before .before .before .before .before .before .args .starts)) (now (c .before .before .before .before .before .before .before .before .args .ends)) (now (c .before .before .before .before .before .before .before .before .args .weights)) (now (c .before .before .before .before .before .before .before .before .args .landings)))) (sym (not-opened (now (c .before .before .before .before .before .before .before .before .args .sheet)) _ (sym (c .before .before .begin .ensures) ∙ c .enum-told .given .1)))
+returns-2 c =
+    let a = c .before .before .before .before .before .before .before .before .args in
+    let t = tables (now (a .starts)) (now (a .ends)) (now (a .weights)) (now (a .landings)) in
+    ap (λ (v : Verdict). loadedBy v t) (sym (not-opened (now (a .sheet)) _ (sym (c .before .before .begin .ensures) ∙ c .enum-told .given .1)))
 
 pub load-spec : {M : Type 1} → statement M
 load-spec =

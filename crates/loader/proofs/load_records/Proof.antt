@@ -27,13 +27,30 @@ enum-known-step : tie.Need-enum-known-step Inv-loop μ-loop
 enum-known-step c = search needs
 
 put-record-requires : tie.Need-put-record-requires Inv-loop μ-loop
-put-record-requires c κs = loading-fits (now (c .before .before .before .before .before .before .before .before .before .before .before .before .before .before .args .sheet)) (tables (now (c .before .before .before .before .before .before .before .before .before .before .before .before .before .before .args .starts)) (now (c .before .before .before .before .before .before .before .before .before .before .before .before .before .before .args .ends)) (now (c .before .before .before .before .before .before .before .before .before .before .before .before .before .before .args .weights)) (now (c .before .before .before .before .before .before .before .before .before .before .before .before .before .before .args .landings))) (c .before .before .before .before .before .before .before .before .loop .state) (tables (c .before .before .before .before .before .before .before .before .loop .starts) (c .before .before .before .before .before .before .before .before .loop .ends) (c .before .before .before .before .before .before .before .before .loop .weights) (c .before .before .before .before .before .before .before .before .loop .landings)) (c .before .before .before .before .before .before .before .before .loop .inv .0) _ _ (sym (c .before .before .before .before .before .before .before .step .ensures) ∙ c .before .before .before .before .before .step2 .given .1)
+put-record-requires c κs =
+    let a = c .before .before .before .before .before .before .before .before .before .before .before .before .before .before .args in
+    let t = tables (now (a .starts)) (now (a .ends)) (now (a .weights)) (now (a .landings)) in
+    let h = c .before .before .before .before .before .before .before .before .loop in
+    let u = tables (h .starts) (h .ends) (h .weights) (h .landings) in
+    loading-fits (now (a .sheet)) t (h .state) u (h .inv .0) _ _ (sym (c .before .before .before .before .before .before .before .step .ensures) ∙ c .before .before .before .before .before .step2 .given .1)
 
 loop-less : tie.Need-loop-less Inv-loop μ-loop
-loop-less c = falls (now (c .before .before .before .before .before .before .before .before .before .before .before .before .before .before .before .before .before .before .before .before .before .before .before .args .sheet)) (c .before .before .before .before .before .before .before .before .before .before .before .before .before .before .before .before .before .loop .state) (c .before .before .before .before .before .before .before .before .before .before .before .before .before .before .before .before .before .loop .inv .0 .underway) _ _ (sym (c .before .before .before .before .before .before .before .before .before .before .before .before .before .before .before .before .step .ensures) ∙ c .before .before .before .before .before .before .before .before .before .before .before .before .before .before .step2 .given .1)
+loop-less c =
+    let h = c .before .before .before .before .before .before .before .before .before .before .before .before .before .before .before .before .before .loop in
+    falls (now (c .before .before .before .before .before .before .before .before .before .before .before .before .before .before .before .before .before .before .before .before .before .before .before .args .sheet)) (h .state) (h .inv .0 .underway) _ _ (sym (c .before .before .before .before .before .before .before .before .before .before .before .before .before .before .before .before .step .ensures) ∙ c .before .before .before .before .before .before .before .before .before .before .before .before .before .before .step2 .given .1)
 
 loop-again : tie.Need-loop-again Inv-loop μ-loop
-loop-again c = (loading-next (now (c .before .before .before .before .before .before .before .before .before .before .before .before .before .before .before .before .before .before .before .before .before .before .before .args .sheet)) (tables (now (c .before .before .before .before .before .before .before .before .before .before .before .before .before .before .before .before .before .before .before .before .before .before .before .args .starts)) (now (c .before .before .before .before .before .before .before .before .before .before .before .before .before .before .before .before .before .before .before .before .before .before .before .args .ends)) (now (c .before .before .before .before .before .before .before .before .before .before .before .before .before .before .before .before .before .before .before .before .before .before .before .args .weights)) (now (c .before .before .before .before .before .before .before .before .before .before .before .before .before .before .before .before .before .before .before .before .before .before .before .args .landings))) (c .before .before .before .before .before .before .before .before .before .before .before .before .before .before .before .before .before .loop .state) (tables (c .before .before .before .before .before .before .before .before .before .before .before .before .before .before .before .before .before .loop .starts) (c .before .before .before .before .before .before .before .before .before .before .before .before .before .before .before .before .before .loop .ends) (c .before .before .before .before .before .before .before .before .before .before .before .before .before .before .before .before .before .loop .weights) (c .before .before .before .before .before .before .before .before .before .before .before .before .before .before .before .before .before .loop .landings)) (c .before .before .before .before .before .before .before .before .before .before .before .before .before .before .before .before .before .loop .inv .0) _ _ (sym (c .before .before .before .before .before .before .before .before .before .before .before .before .before .before .before .before .step .ensures) ∙ c .before .before .before .before .before .before .before .before .before .before .before .before .before .before .step2 .given .1) _ (c .before .before .before .before .before .before .before .before .put-record .ensures), search needs, search needs, search needs, search needs)
+loop-again c =
+    let a = c .before .before .before .before .before .before .before .before .before .before .before .before .before .before .before .before .before .before .before .before .before .before .before .args in
+    let t = tables (now (a .starts)) (now (a .ends)) (now (a .weights)) (now (a .landings)) in
+    let h = c .before .before .before .before .before .before .before .before .before .before .before .before .before .before .before .before .before .loop in
+    let u = tables (h .starts) (h .ends) (h .weights) (h .landings) in (
+      loading-next (now (a .sheet)) t (h .state) u (h .inv .0) _ _ (sym (c .before .before .before .before .before .before .before .before .before .before .before .before .before .before .before .before .step .ensures) ∙ c .before .before .before .before .before .before .before .before .before .before .before .before .before .before .step2 .given .1) _ (c .before .before .before .before .before .before .before .before .put-record .ensures),
+      search needs,
+      search needs,
+      search needs,
+      search needs,
+    )
 
 enum-told : tie.Need-enum-told Inv-loop μ-loop
 enum-told c = search needs
@@ -51,7 +68,12 @@ same-length-4 : tie.Need-same-length-4 Inv-loop μ-loop
 same-length-4 c = search needs
 
 returns : tie.Need-returns Inv-loop μ-loop
-returns c = loading-end (now (c .before .before .before .before .before .before .before .before .before .args .sheet)) (tables (now (c .before .before .before .before .before .before .before .before .before .args .starts)) (now (c .before .before .before .before .before .before .before .before .before .args .ends)) (now (c .before .before .before .before .before .before .before .before .before .args .weights)) (now (c .before .before .before .before .before .before .before .before .before .args .landings))) (c .before .before .before .loop .state) (tables (c .before .before .before .loop .starts) (c .before .before .before .loop .ends) (c .before .before .before .loop .weights) (c .before .before .before .loop .landings)) (c .before .before .before .loop .inv .0) (sym (c .before .before .step .ensures) ∙ c .enum-told .given .1)
+returns c =
+    let a = c .before .before .before .before .before .before .before .before .before .args in
+    let t = tables (now (a .starts)) (now (a .ends)) (now (a .weights)) (now (a .landings)) in
+    let h = c .before .before .before .loop in
+    let u = tables (h .starts) (h .ends) (h .weights) (h .landings) in
+    loading-end (now (a .sheet)) t (h .state) u (h .inv .0) (sym (c .before .before .step .ensures) ∙ c .enum-told .given .1)
 
 enum-told-2 : tie.Need-enum-told-2 Inv-loop μ-loop
 enum-told-2 c = search needs
@@ -69,7 +91,12 @@ same-length-8 : tie.Need-same-length-8 Inv-loop μ-loop
 same-length-8 c = search needs
 
 returns-2 : tie.Need-returns-2 Inv-loop μ-loop
-returns-2 c = absurd (loading-fault (now (c .before .before .before .before .before .before .before .before .before .args .sheet)) (tables (now (c .before .before .before .before .before .before .before .before .before .args .starts)) (now (c .before .before .before .before .before .before .before .before .before .args .ends)) (now (c .before .before .before .before .before .before .before .before .before .args .weights)) (now (c .before .before .before .before .before .before .before .before .before .args .landings))) (c .before .before .before .loop .state) (tables (c .before .before .before .loop .starts) (c .before .before .before .loop .ends) (c .before .before .before .loop .weights) (c .before .before .before .loop .landings)) (c .before .before .before .loop .inv .0) _ (sym (c .before .before .step .ensures) ∙ c .enum-told2 .given .1))
+returns-2 c =
+    let a = c .before .before .before .before .before .before .before .before .before .args in
+    let t = tables (now (a .starts)) (now (a .ends)) (now (a .weights)) (now (a .landings)) in
+    let h = c .before .before .before .loop in
+    let u = tables (h .starts) (h .ends) (h .weights) (h .landings) in
+    absurd (loading-fault (now (a .sheet)) t (h .state) u (h .inv .0) _ (sym (c .before .before .step .ensures) ∙ c .enum-told2 .given .1))
 
 pub load-records-spec : {M : Type 1} → statement M
 load-records-spec =

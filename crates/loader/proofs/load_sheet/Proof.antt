@@ -21,7 +21,10 @@ long-enough-requires : tie.Need-long-enough-requires
 long-enough-requires c κs = search needs
 
 load-requires : tie.Need-load-requires
-load-requires c κs = loadable-tested (now (c .before .before .before .before .before .before .before .before .before .before .before .before .before .before .before .args .sheet)) (tables (now (c .before .before .before .before .before .before .before .before .before .before .before .before .before .before .before .args .starts)) (now (c .before .before .before .before .before .before .before .before .before .before .before .before .before .before .before .args .ends)) (now (c .before .before .before .before .before .before .before .before .before .before .before .before .before .before .before .args .weights)) (now (c .before .before .before .before .before .before .before .before .before .before .before .before .before .before .before .args .landings))) _ _ _ (sym (c .before .before .before .before .before .before .before .judged2 .given .1) ∙ c .before .before .before .before .before .before .before .before .before .judge .ensures) (sym (c .before .before .before .before .before .long-enough .ensures) ∙ c .before .before .before .before .if1 .taken)
+load-requires c κs =
+    let a = c .before .before .before .before .before .before .before .before .before .before .before .before .before .before .before .args in
+    let t = tables (now (a .starts)) (now (a .ends)) (now (a .weights)) (now (a .landings)) in
+    loadable-tested (now (a .sheet)) t _ _ _ (sym (c .before .before .before .before .before .before .before .judged2 .given .1) ∙ c .before .before .before .before .before .before .before .before .before .judge .ensures) (sym (c .before .before .before .before .before .long-enough .ensures) ∙ c .before .before .before .before .if1 .taken)
 
 same-length : tie.Need-same-length
 same-length c = search needs
@@ -36,13 +39,22 @@ same-length-4 : tie.Need-same-length-4
 same-length-4 c = search needs
 
 returns : tie.Need-returns
-returns c = loaded-whole (now (c .before .before .before .before .before .before .before .before .before .before .before .before .before .before .before .before .before .before .before .before .before .before .before .before .args .sheet)) (tables (now (c .before .before .before .before .before .before .before .before .before .before .before .before .before .before .before .before .before .before .before .before .before .before .before .before .args .starts)) (now (c .before .before .before .before .before .before .before .before .before .before .before .before .before .before .before .before .before .before .before .before .before .before .before .before .args .ends)) (now (c .before .before .before .before .before .before .before .before .before .before .before .before .before .before .before .before .before .before .before .before .before .before .before .before .args .weights)) (now (c .before .before .before .before .before .before .before .before .before .before .before .before .before .before .before .before .before .before .before .before .before .before .before .before .args .landings))) _ _ _ (sym (c .before .before .before .before .before .before .before .before .before .before .before .before .before .before .before .before .judged2 .given .1) ∙ c .before .before .before .before .before .before .before .before .before .before .before .before .before .before .before .before .before .before .judge .ensures) (sym (c .before .before .before .before .before .before .before .before .before .before .before .before .before .before .long-enough .ensures) ∙ c .before .before .before .before .before .before .before .before .before .before .before .before .before .if1 .taken) _ (c .before .before .before .before .before .before .before .before .load .ensures)
+returns c =
+    let a = c .before .before .before .before .before .before .before .before .before .before .before .before .before .before .before .before .before .before .before .before .before .before .before .before .args in
+    let t = tables (now (a .starts)) (now (a .ends)) (now (a .weights)) (now (a .landings)) in
+    loaded-whole (now (a .sheet)) t _ _ _ (sym (c .before .before .before .before .before .before .before .before .before .before .before .before .before .before .before .before .judged2 .given .1) ∙ c .before .before .before .before .before .before .before .before .before .before .before .before .before .before .before .before .before .before .judge .ensures) (sym (c .before .before .before .before .before .before .before .before .before .before .before .before .before .before .long-enough .ensures) ∙ c .before .before .before .before .before .before .before .before .before .before .before .before .before .if1 .taken) _ (c .before .before .before .before .before .before .before .before .load .ensures)
 
 returns-2 : tie.Need-returns-2
-returns-2 c = refused-sheet (now (c .before .before .before .before .before .before .before .before .before .args .sheet)) (tables (now (c .before .before .before .before .before .before .before .before .before .args .starts)) (now (c .before .before .before .before .before .before .before .before .before .args .ends)) (now (c .before .before .before .before .before .before .before .before .before .args .weights)) (now (c .before .before .before .before .before .before .before .before .before .args .landings))) _ (sym (c .before .judged .given .1) ∙ c .before .before .before .judge .ensures)
+returns-2 c =
+    let a = c .before .before .before .before .before .before .before .before .before .args in
+    let t = tables (now (a .starts)) (now (a .ends)) (now (a .weights)) (now (a .landings)) in
+    refused-sheet (now (a .sheet)) t _ (sym (c .before .judged .given .1) ∙ c .before .before .before .judge .ensures)
 
 returns-3 : tie.Need-returns-3
-returns-3 c = refused-short (now (c .before .before .before .before .before .before .before .before .before .before .before .args .sheet)) (tables (now (c .before .before .before .before .before .before .before .before .before .before .before .args .starts)) (now (c .before .before .before .before .before .before .before .before .before .before .before .args .ends)) (now (c .before .before .before .before .before .before .before .before .before .before .before .args .weights)) (now (c .before .before .before .before .before .before .before .before .before .before .before .args .landings))) _ _ _ (sym (c .before .before .before .judged2 .given .1) ∙ c .before .before .before .before .before .judge .ensures) (sym (c .before .long-enough .ensures) ∙ c .if1 .left)
+returns-3 c =
+    let a = c .before .before .before .before .before .before .before .before .before .before .before .args in
+    let t = tables (now (a .starts)) (now (a .ends)) (now (a .weights)) (now (a .landings)) in
+    refused-short (now (a .sheet)) t _ _ _ (sym (c .before .before .before .judged2 .given .1) ∙ c .before .before .before .before .before .judge .ensures) (sym (c .before .long-enough .ensures) ∙ c .if1 .left)
 
 pub load-sheet-spec : {M : Type 1} → statement M
 load-sheet-spec =

@@ -27,7 +27,16 @@ same-length-3 : tie.Need-same-length-3
 same-length-3 c = search needs
 
 returns : tie.Need-returns
-returns c = (c .before .before .before .before .before .before .put-arc2 .ensures .0 ∙ ap (λ (l : List ℕ). set l (c .before .before .before .before .before .before .before .before .before .before .before .before .before .before .before .before .before .before .before .before .before .before .before .args .i + 1) (c .before .before .before .before .before .before .before .before .before .before .before .before .before .before .before .before .before .before .before .before .before .before .before .args .end)) (c .before .before .before .before .before .before .before .before .before .before .before .before .before .before .before .before .put-arc .ensures .0), (c .before .before .before .before .before .before .put-arc2 .ensures .1 .0 ∙ ap (λ (l : List ℕ). set l (c .before .before .before .before .before .before .before .before .before .before .before .before .before .before .before .before .before .before .before .before .before .before .before .args .i + 1) (c .before .before .before .before .before .before .before .before .before .before .before .before .before .before .before .before .before .before .before .before .before .before .before .args .start)) (c .before .before .before .before .before .before .before .before .before .before .before .before .before .before .before .before .put-arc .ensures .1 .0), c .before .before .before .before .before .before .put-arc2 .ensures .1 .1 ∙ ap (λ (l : List ℕ). set l (c .before .before .before .before .before .before .before .before .before .before .before .before .before .before .before .before .before .before .before .before .before .before .before .args .i + 1) (c .before .before .before .before .before .before .before .before .before .before .before .before .before .before .before .before .before .before .before .before .before .before .before .args .weight)) (c .before .before .before .before .before .before .before .before .before .before .before .before .before .before .before .before .put-arc .ensures .1 .1)))
+returns c =
+    let a = c .before .before .before .before .before .before .before .before .before .before .before .before .before .before .before .before .before .before .before .before .before .before .before .args in
+    let p1 = c .before .before .before .before .before .before .before .before .before .before .before .before .before .before .before .before .put-arc .ensures in
+    let p2 = c .before .before .before .before .before .before .put-arc2 .ensures in (
+      p2 .0 ∙ ap (λ (l : List ℕ). set l (a .i + 1) (a .end)) (p1 .0),
+      (
+        p2 .1 .0 ∙ ap (λ (l : List ℕ). set l (a .i + 1) (a .start)) (p1 .1 .0),
+        p2 .1 .1 ∙ ap (λ (l : List ℕ). set l (a .i + 1) (a .weight)) (p1 .1 .1),
+      ),
+    )
 
 pub put-both-spec : {M : Type 1} → statement M
 put-both-spec =

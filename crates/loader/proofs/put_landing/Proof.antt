@@ -28,7 +28,9 @@ same-length : tie.Need-same-length
 same-length c = search needs
 
 returns : tie.Need-returns
-returns c = ap (λ (x : ℕ). set (now (c .before .before .before .before .args .landings)) (c .before .before .before .before .args .node) (union (getD (now (c .before .before .before .before .args .landings)) (c .before .before .before .before .args .node) 0) x)) (c .before .before .single .ensures)
+returns c =
+    let a = c .before .before .before .before .args in
+    ap (λ (x : ℕ). set (now (a .landings)) (a .node) (union (getD (now (a .landings)) (a .node) 0) x)) (c .before .before .single .ensures)
 
 pub put-landing-spec : {M : Type 1} → statement M
 put-landing-spec =

@@ -14,19 +14,31 @@ enum-known-item : tie.Need-enum-known-item
 enum-known-item c = search needs
 
 put-arc-requires : tie.Need-put-arc-requires
-put-arc-requires c κs = let f = subst (λ (x : Record). Fits (c .before .before .before .before .before .before .before .before .before .before .args .at) x (tables (now (c .before .before .before .before .before .before .before .before .before .before .args .starts)) (now (c .before .before .before .before .before .before .before .before .before .before .args .ends)) (now (c .before .before .before .before .before .before .before .before .before .before .args .weights)) (now (c .before .before .before .before .before .before .before .before .before .before .args .landings)))) (c .before .before .before .before .item .given .1) (c .before .before .before .before .before .before .before .before .before .before .pre) in (omega (arith, f .starts), omega (arith, f .ends), omega (arith, f .weights))
+put-arc-requires c κs =
+    let a = c .before .before .before .before .before .before .before .before .before .before .args in
+    let t = tables (now (a .starts)) (now (a .ends)) (now (a .weights)) (now (a .landings)) in
+    let f = subst (λ (x : Record). Fits (a .at) x t) (c .before .before .before .before .item .given .1) (c .before .before .before .before .before .before .before .before .before .before .pre) in
+    (omega (arith, f .starts), omega (arith, f .ends), omega (arith, f .weights))
 
 enum-known-item-2 : tie.Need-enum-known-item-2
 enum-known-item-2 c = search needs
 
 put-both-requires : tie.Need-put-both-requires
-put-both-requires c κs = let f = subst (λ (x : Record). Fits (c .before .before .before .before .before .before .before .before .before .before .args .at) x (tables (now (c .before .before .before .before .before .before .before .before .before .before .args .starts)) (now (c .before .before .before .before .before .before .before .before .before .before .args .ends)) (now (c .before .before .before .before .before .before .before .before .before .before .args .weights)) (now (c .before .before .before .before .before .before .before .before .before .before .args .landings)))) (c .before .before .before .before .item2 .given .1) (c .before .before .before .before .before .before .before .before .before .before .pre) in (omega (arith, f .starts), omega (arith, f .ends), omega (arith, f .weights))
+put-both-requires c κs =
+    let a = c .before .before .before .before .before .before .before .before .before .before .args in
+    let t = tables (now (a .starts)) (now (a .ends)) (now (a .weights)) (now (a .landings)) in
+    let f = subst (λ (x : Record). Fits (a .at) x t) (c .before .before .before .before .item2 .given .1) (c .before .before .before .before .before .before .before .before .before .before .pre) in
+    (omega (arith, f .starts), omega (arith, f .ends), omega (arith, f .weights))
 
 enum-known-item-3 : tie.Need-enum-known-item-3
 enum-known-item-3 c = search needs
 
 put-landing-requires : tie.Need-put-landing-requires
-put-landing-requires c κs = subst (λ (x : Record). Fits (c .before .before .before .before .before .before .before .before .args .at) x (tables (now (c .before .before .before .before .before .before .before .before .args .starts)) (now (c .before .before .before .before .before .before .before .before .args .ends)) (now (c .before .before .before .before .before .before .before .before .args .weights)) (now (c .before .before .before .before .before .before .before .before .args .landings)))) (c .before .before .item3 .given .1) (c .before .before .before .before .before .before .before .before .pre) .landings
+put-landing-requires c κs =
+    let a = c .before .before .before .before .before .before .before .before .args in
+    let t = tables (now (a .starts)) (now (a .ends)) (now (a .weights)) (now (a .landings)) in
+    let f = subst (λ (x : Record). Fits (a .at) x t) (c .before .before .item3 .given .1) (c .before .before .before .before .before .before .before .before .pre) in
+    f .landings
 
 same-length : tie.Need-same-length
 same-length c = search needs
@@ -38,7 +50,11 @@ same-length-3 : tie.Need-same-length-3
 same-length-3 c = search needs
 
 returns : tie.Need-returns
-returns c = one-way-written (c .before .before .before .before .before .before .before .before .before .before .before .before .before .before .before .before .before .args .at) (c .before .before .before .before .before .before .before .before .before .before .before .before .before .before .before .before .before .args .item) (tables (now (c .before .before .before .before .before .before .before .before .before .before .before .before .before .before .before .before .before .args .starts)) (now (c .before .before .before .before .before .before .before .before .before .before .before .before .before .before .before .before .before .args .ends)) (now (c .before .before .before .before .before .before .before .before .before .before .before .before .before .before .before .before .before .args .weights)) (now (c .before .before .before .before .before .before .before .before .before .before .before .before .before .before .before .before .before .args .landings))) _ _ _ (c .before .before .before .before .before .before .before .before .before .before .before .item .given .1) (c .before .before .before .before .before .before .put-arc .ensures .0) (c .before .before .before .before .before .before .put-arc .ensures .1 .0) (c .before .before .before .before .before .before .put-arc .ensures .1 .1)
+returns c =
+    let a = c .before .before .before .before .before .before .before .before .before .before .before .before .before .before .before .before .before .args in
+    let t = tables (now (a .starts)) (now (a .ends)) (now (a .weights)) (now (a .landings)) in
+    let e = c .before .before .before .before .before .before .put-arc .ensures in
+    one-way-written (a .at) (a .item) t _ _ _ (c .before .before .before .before .before .before .before .before .before .before .before .item .given .1) (e .0) (e .1 .0) (e .1 .1)
 
 same-length-4 : tie.Need-same-length-4
 same-length-4 c = search needs
@@ -50,13 +66,20 @@ same-length-6 : tie.Need-same-length-6
 same-length-6 c = search needs
 
 returns-2 : tie.Need-returns-2
-returns-2 c = both-ways-written (c .before .before .before .before .before .before .before .before .before .before .before .before .before .before .before .before .before .args .at) (c .before .before .before .before .before .before .before .before .before .before .before .before .before .before .before .before .before .args .item) (tables (now (c .before .before .before .before .before .before .before .before .before .before .before .before .before .before .before .before .before .args .starts)) (now (c .before .before .before .before .before .before .before .before .before .before .before .before .before .before .before .before .before .args .ends)) (now (c .before .before .before .before .before .before .before .before .before .before .before .before .before .before .before .before .before .args .weights)) (now (c .before .before .before .before .before .before .before .before .before .before .before .before .before .before .before .before .before .args .landings))) _ _ _ (c .before .before .before .before .before .before .before .before .before .before .before .item2 .given .1) (c .before .before .before .before .before .before .put-both .ensures .0) (c .before .before .before .before .before .before .put-both .ensures .1 .0) (c .before .before .before .before .before .before .put-both .ensures .1 .1)
+returns-2 c =
+    let a = c .before .before .before .before .before .before .before .before .before .before .before .before .before .before .before .before .before .args in
+    let t = tables (now (a .starts)) (now (a .ends)) (now (a .weights)) (now (a .landings)) in
+    let e = c .before .before .before .before .before .before .put-both .ensures in
+    both-ways-written (a .at) (a .item) t _ _ _ (c .before .before .before .before .before .before .before .before .before .before .before .item2 .given .1) (e .0) (e .1 .0) (e .1 .1)
 
 same-length-7 : tie.Need-same-length-7
 same-length-7 c = search needs
 
 returns-3 : tie.Need-returns-3
-returns-3 c = landing-written (c .before .before .before .before .before .before .before .before .before .before .before .args .at) (c .before .before .before .before .before .before .before .before .before .before .before .args .item) (tables (now (c .before .before .before .before .before .before .before .before .before .before .before .args .starts)) (now (c .before .before .before .before .before .before .before .before .before .before .before .args .ends)) (now (c .before .before .before .before .before .before .before .before .before .before .before .args .weights)) (now (c .before .before .before .before .before .before .before .before .before .before .before .args .landings))) _ (c .before .before .before .before .before .item3 .given .1) (c .before .before .put-landing .ensures)
+returns-3 c =
+    let a = c .before .before .before .before .before .before .before .before .before .before .before .args in
+    let t = tables (now (a .starts)) (now (a .ends)) (now (a .weights)) (now (a .landings)) in
+    landing-written (a .at) (a .item) t _ (c .before .before .before .before .before .item3 .given .1) (c .before .before .put-landing .ensures)
 
 pub put-record-spec : {M : Type 1} → statement M
 put-record-spec =

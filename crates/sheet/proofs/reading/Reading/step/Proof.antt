@@ -8,7 +8,7 @@ use Rattle.lists.specs.Rest.{take-rest}
 use Rattle.sheet.specs.Verdict.{foundIn}
 use Rattle.sheet.specs.Passed.{found-item}
 use Rattle.sheet.specs.Room.{room-found}
-use Rattle.sheet.proofs.NextState.{step-item, step-end, step-fault}
+use Rattle.sheet.proofs.NextState.{step-of-item, step-of-end, step-of-fault}
 use borrow.Author.Needs.{needs}
 use Rattle.sheet.proofs.reading.Reading.step.Statement.{statement}
 use Rattle.sheet.proofs.reading.Reading.step.Tie as tie
@@ -41,13 +41,13 @@ enum-known-found-2 : tie.Need-enum-known-found-2
 enum-known-found-2 c = search needs
 
 returns : tie.Need-returns
-returns c = step-item (c .before .before .before .before .before .before .before .args .self) (now (c .before .before .before .before .before .before .before .args .sheet)) _ (c .after .result) (sym (is-found (c .before .before .before .before)) ∙ c .before .before .found2 .given .1) (c .after .ensures)
+returns c = step-of-item (c .before .before .before .before .before .before .before .args .self) (now (c .before .before .before .before .before .before .before .args .sheet)) _ (c .after .result) (sym (is-found (c .before .before .before .before)) ∙ c .before .before .found2 .given .1) (c .after .ensures)
 
 returns-2 : tie.Need-returns-2
-returns-2 c = step-end (c .before .before .before .before .before .args .self) (now (c .before .before .before .before .before .args .sheet)) (sym (is-found (c .before .before)) ∙ c .enum-told .given .1)
+returns-2 c = step-of-end (c .before .before .before .before .before .args .self) (now (c .before .before .before .before .before .args .sheet)) (sym (is-found (c .before .before)) ∙ c .enum-told .given .1)
 
 returns-3 : tie.Need-returns-3
-returns-3 c = step-fault (c .before .before .before .before .before .before .args .self) (now (c .before .before .before .before .before .before .args .sheet)) _ (sym (is-found (c .before .before .before)) ∙ c .before .found3 .given .1)
+returns-3 c = step-of-fault (c .before .before .before .before .before .before .args .self) (now (c .before .before .before .before .before .before .args .sheet)) _ (sym (is-found (c .before .before .before)) ∙ c .before .found3 .given .1)
 
 pub step-spec : {M : Type 1} → statement M
 step-spec =

@@ -1,5 +1,8 @@
 -- `sheet::reading::Reading::tested_link` meets its contract. Each return has the tests that led to it.
 -- Assumes nothing.
+use Prim.Native.Nat.{ℕ, _+_, _≤_, _<_}
+use mathlib.Core.Path.{subst}
+use Rattle.limits.specs.Limits.{maxArcs}
 use borrow.Author.Tests.{eq-eqb, le-leb, le-ltb, lt-leb, lt-ltb, ne-eqb}
 use borrow.Author.Needs.{needs}
 use Rattle.sheet.proofs.reading.Reading.tested_link.Statement.{statement}
@@ -24,10 +27,10 @@ add-if6 : tie.Need-add-if6
 add-if6 c = search needs
 
 returns-6 : tie.Need-returns-6
-returns-6 c = simp (lt-ltb _ _ (c .if6 .taken), le-ltb _ _ (c .before .before .if5 .left), le-ltb _ _ (c .before .before .before .if4 .left), ne-eqb _ _ (c .before .before .before .before .if3 .left), lt-leb _ _ (c .before .before .before .before .before .if2 .left), lt-leb _ _ (c .before .before .before .before .before .before .before .if1 .left))
+returns-6 c = simp (lt-ltb _ _ (subst (λ (m : ℕ). maxArcs < c .before .before .before .before .before .before .before .before .before .args .self .arcs + m) (c .before .before .before .before .before .before .before .before .before .pre .2) (c .if6 .taken)), le-ltb _ _ (c .before .before .if5 .left), le-ltb _ _ (c .before .before .before .if4 .left), ne-eqb _ _ (c .before .before .before .before .if3 .left), lt-leb _ _ (c .before .before .before .before .before .if2 .left), lt-leb _ _ (c .before .before .before .before .before .before .before .if1 .left))
 
 returns-7 : tie.Need-returns-7
-returns-7 c = simp (le-ltb _ _ (c .if6 .left), le-ltb _ _ (c .before .before .if5 .left), le-ltb _ _ (c .before .before .before .if4 .left), ne-eqb _ _ (c .before .before .before .before .if3 .left), lt-leb _ _ (c .before .before .before .before .before .if2 .left), lt-leb _ _ (c .before .before .before .before .before .before .before .if1 .left))
+returns-7 c = simp (le-ltb _ _ (subst (λ (m : ℕ). c .before .before .before .before .before .before .before .before .before .args .self .arcs + m ≤ maxArcs) (c .before .before .before .before .before .before .before .before .before .pre .2) (c .if6 .left)), le-ltb _ _ (c .before .before .if5 .left), le-ltb _ _ (c .before .before .before .if4 .left), ne-eqb _ _ (c .before .before .before .before .if3 .left), lt-leb _ _ (c .before .before .before .before .before .if2 .left), lt-leb _ _ (c .before .before .before .before .before .before .before .if1 .left))
 
 pub tested-link-spec : {M : Type 1} → statement M
 tested-link-spec =
