@@ -3,8 +3,9 @@
 use crate::build::put;
 use crate::build::put_times;
 use crate::case::verdict;
+use sheet_text::print_field;
 
-fn heads_and_nodes() {
+fn most_nodes() {
     verdict(
         b"1024 sites and 10 stations",
         b"HD\x04\x00\x0aLK\x00\x00\x03\xff\x00\x0f\x42\x40ST\x00\x03\xffST\x01\x03\xfeST\x02\x03\xfd\
@@ -15,6 +16,10 @@ fn heads_and_nodes() {
         b"site 1024 of 1024",
         b"HD\x04\x00\x01LK\x00\x00\x04\x00\x00\x00\x00\x01ST\x00\x00\x00ED",
     );
+}
+
+// Site numbers that need both their bytes.
+fn two_byte_nodes() {
     verdict(
         b"site 258 of 259",
         b"HD\x01\x03\x01LK\x01\x02\x00\x02\x00\x00\x00\x01ST\x00\x01\x02ED",
@@ -23,6 +28,9 @@ fn heads_and_nodes() {
         b"site 259 of 259",
         b"HD\x01\x03\x01LK\x01\x02\x01\x03\x00\x00\x00\x01ST\x00\x01\x02ED",
     );
+}
+
+fn most_terminals() {
     verdict(
         b"9 of 10 stations heard",
         b"HD\x00\x01\x0aST\x00\x00\x00ST\x01\x00\x00ST\x02\x00\x00ST\x03\x00\x00ST\x04\x00\x00\
@@ -43,77 +51,70 @@ fn after_many(name: &[u8], record: &[u8], count: usize, last: &[u8]) {
     verdict(name, &sheet[..length]);
 }
 
+// An `LK` after so many legs.
+fn one_way_at(arcs: usize) {
+    print_field(b"LK at ", arcs as u64);
+    after_many(
+        b" legs",
+        &ONE_WAY,
+        arcs,
+        b"LK\x00\x00\x00\x01\x00\x00\x00\x01ED",
+    );
+}
+
+// A `BK` after so many legs.
+fn both_ways_at(arcs: usize) {
+    print_field(b"BK at ", arcs as u64);
+    after_many(
+        b" legs",
+        &ONE_WAY,
+        arcs,
+        b"BK\x00\x00\x00\x01\x00\x00\x00\x01ED",
+    );
+}
+
+// The last records after 8192 legs.
+fn at_most_arcs(name: &[u8], last: &[u8]) {
+    after_many(name, &ONE_WAY, 8192, last);
+}
+
+// The last records after 4096 times two legs.
+fn after_pairs(name: &[u8], last: &[u8]) {
+    after_many(name, &BOTH_WAYS, 4096, last);
+}
+
 fn numbers_of_arcs() {
-    after_many(
-        b"LK at 8191 legs",
-        &ONE_WAY,
-        8191,
-        b"LK\x00\x00\x00\x01\x00\x00\x00\x01ED",
-    );
-    after_many(
-        b"LK at 8192 legs",
-        &ONE_WAY,
-        8192,
-        b"LK\x00\x00\x00\x01\x00\x00\x00\x01ED",
-    );
-    after_many(
-        b"BK at 8190 legs",
-        &ONE_WAY,
-        8190,
-        b"BK\x00\x00\x00\x01\x00\x00\x00\x01ED",
-    );
-    after_many(
-        b"BK at 8191 legs",
-        &ONE_WAY,
-        8191,
-        b"BK\x00\x00\x00\x01\x00\x00\x00\x01ED",
-    );
-    after_many(
-        b"BK at 8192 legs",
-        &ONE_WAY,
-        8192,
-        b"BK\x00\x00\x00\x01\x00\x00\x00\x01ED",
-    );
-    after_many(b"4096 BK", &BOTH_WAYS, 4096, b"ED");
-    after_many(
-        b"LK after 4096 BK",
-        &BOTH_WAYS,
-        4096,
-        b"LK\x00\x00\x00\x01\x00\x00\x00\x01ED",
-    );
-    after_many(b"ST at 8192 legs", &ONE_WAY, 8192, b"ST\x00\x00\x01ED");
+    one_way_at(8191);
+    one_way_at(8192);
+    both_ways_at(8190);
+    both_ways_at(8191);
+    both_ways_at(8192);
+    after_pairs(b"4096 BK", b"ED");
+    after_pairs(b"LK after 4096 BK", b"LK\x00\x00\x00\x01\x00\x00\x00\x01ED");
+    at_most_arcs(b"ST at 8192 legs", b"ST\x00\x00\x01ED");
 }
 
 // The tests that come before the number of legs.
 fn faults_before() {
-    after_many(
+    at_most_arcs(
         b"LK at 8192 legs and price 0",
-        &ONE_WAY,
-        8192,
         b"LK\x00\x00\x00\x01\x00\x00\x00\x00ED",
     );
-    after_many(
+    at_most_arcs(
         b"LK at 8192 legs and a loop",
-        &ONE_WAY,
-        8192,
         b"LK\x00\x01\x00\x01\x00\x00\x00\x01ED",
     );
-    after_many(
+    at_most_arcs(
         b"LK at 8192 legs and site 2 of 2",
-        &ONE_WAY,
-        8192,
         b"LK\x00\x00\x00\x02\x00\x00\x00\x01ED",
     );
-    after_many(
-        b"LK at 8192 legs cut",
-        &ONE_WAY,
-        8192,
-        b"LK\x00\x00\x00\x01\x00\x00\x00",
-    );
+    at_most_arcs(b"LK at 8192 legs cut", b"LK\x00\x00\x00\x01\x00\x00\x00");
 }
 
 pub fn run() {
-    heads_and_nodes();
+    most_nodes();
+    two_byte_nodes();
+    most_terminals();
     numbers_of_arcs();
     faults_before();
 }

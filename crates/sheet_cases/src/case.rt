@@ -1,6 +1,5 @@
 // A case: its name and what the loading of its sheet gave.
 // Before the loading the tables of small sheets hold values that no sheet has.
-use crate::build::put;
 use loader::load_sheet;
 use sheet_text::print;
 use sheet_text::print_loaded;
@@ -22,16 +21,10 @@ pub fn show(name: &[u8], sheet: &[u8]) {
     print_loaded(loaded, &starts, &ends, &weights, &landings);
 }
 
-// The same of a sheet that starts with `HD` 3 2 and `LK` 0 1 5: the first of the given records stands at place 15.
-pub fn later(name: &[u8], records: &[u8]) {
-    let mut sheet = [0u8; 64];
-    let at = put(
-        &mut sheet,
-        0,
-        b"HD\x00\x03\x02LK\x00\x00\x00\x01\x00\x00\x00\x05",
-    );
-    let length = put(&mut sheet, at, records);
-    show(name, &sheet[..length]);
+// A case whose sheet is not readable: no sheet is loaded.
+pub fn show_unreadable(name: &[u8]) {
+    print_name(name);
+    print(b"case not readable\n");
 }
 
 // The verdict alone, with tables for the limits of document 01.

@@ -1,20 +1,24 @@
-// Many sheets, each with its name and what its loading gave.
+// Many sheets, each with its name and what its loading gave: those of standard input, and those that the program builds.
 // The stored output is what the rules of document 01 give.
 mod bounds;
 mod build;
 mod case;
 mod cuts;
-mod faults;
-mod good;
-mod orders;
+mod lines;
+mod notation;
 mod tables;
-mod worked;
+mod text;
+
+use libc::STDIN_FILENO;
 
 fn main() {
-    worked::run();
-    good::run();
-    faults::run();
-    orders::run();
+    let mut bytes = [0u8; 65537];
+    let length = io::read_full(STDIN_FILENO, &mut bytes);
+    if 65536 < length {
+        sheet_text::print(b"too long\n");
+        return;
+    }
+    text::run(&bytes[..length]);
     bounds::run();
     cuts::run();
     tables::run();

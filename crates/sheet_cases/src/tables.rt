@@ -1,14 +1,21 @@
 // The tables after a loading: the first entries written and the later ones untouched, or, after a refusal, all of them untouched.
 // Each table is lent with values that no sheet has, and all its entries are printed.
 use crate::case::print_name;
-use crate::worked::B;
-use crate::worked::C;
-use crate::worked::D;
 use loader::load_sheet;
 use sheet_text::print;
 use sheet_text::print_field;
 use sheet_text::print_verdict;
 ghost use Prim.Native.Nat.{_≤_};
+
+// The worked sheets B, C and D of document 01.
+const B: [u8; 12] = *b"HD\x00\x01\x01ST\x00\x00\x00ED";
+
+const C: [u8; 42] =
+    *b"HD\x00\x03\x02LK\x00\x00\x00\x01\x00\x00\x00\x09LK\x00\x00\x00\x02\x00\x00\x00\x04ST\x00\x00\x00\
+    ST\x01\x00\x01ST\x01\x00\x02ED";
+
+const D: [u8; 27] =
+    *b"HD\x00\x02\x02BK\x00\x00\x00\x01\x00\x00\x00\x07ST\x00\x00\x00ST\x01\x00\x01ED";
 
 // One byte follows `ED`.
 const LATE: [u8; 23] = *b"HD\x00\x02\x01LK\x00\x00\x00\x01\x00\x00\x00\x05ST\x00\x00\x00ED\x00";
@@ -78,14 +85,37 @@ fn lent(
     print_entries(b"landing sets", &landings);
 }
 
-// Good sheets in tables of several lengths.
-fn good_sheets() {
-    lent(b"C in longer tables", &C, 6, 6, 6, 6);
-    lent(b"C in tables just long enough", &C, 2, 2, 2, 3);
-    lent(b"C with one leg start too few", &C, 1, 2, 2, 3);
-    lent(b"C with one leg end too few", &C, 2, 1, 2, 3);
-    lent(b"C with one leg price too few", &C, 2, 2, 1, 3);
-    lent(b"C with one landing set too few", &C, 2, 2, 2, 2);
+// Sheet C, which has two legs and three sites.
+fn lent_to_c(
+    name: &[u8],
+    start_count: usize,
+    end_count: usize,
+    weight_count: usize,
+    landing_count: usize,
+)
+    requires { ⌜ («start_count» ≤ 6) × («end_count» ≤ 6) × («weight_count» ≤ 6) × («landing_count» ≤ 6) ⌝ }
+{
+    lent(
+        name,
+        &C,
+        start_count,
+        end_count,
+        weight_count,
+        landing_count,
+    );
+}
+
+fn tables_for_c() {
+    lent_to_c(b"C in longer tables", 6, 6, 6, 6);
+    lent_to_c(b"C in tables just long enough", 2, 2, 2, 3);
+    lent_to_c(b"C with one leg start too few", 1, 2, 2, 3);
+    lent_to_c(b"C with one leg end too few", 2, 1, 2, 3);
+    lent_to_c(b"C with one leg price too few", 2, 2, 1, 3);
+    lent_to_c(b"C with one landing set too few", 2, 2, 2, 2);
+}
+
+// A sheet with a `BK`, and one with no legs.
+fn tables_for_d_and_b() {
     lent(b"D with room for one leg", &D, 1, 1, 1, 2);
     lent(b"D in tables just long enough", &D, 2, 2, 2, 2);
     lent(b"B with no leg tables", &B, 0, 0, 0, 1);
@@ -100,6 +130,7 @@ fn refused_sheets() {
 }
 
 pub fn run() {
-    good_sheets();
+    tables_for_c();
+    tables_for_d_and_b();
     refused_sheets();
 }

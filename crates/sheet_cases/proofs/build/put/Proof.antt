@@ -1,18 +1,13 @@
 -- `put` is safe and ends: the bytes that are left fall at each turn. The place stays within the buffer, whose length is kept.
 -- Assumes nothing.
-use Prim.Native.Nat.{ℕ, _+_, _-_, _≤_, _<_}
+use Prim.Native.Nat.{_-_, _≤_}
 use mathlib.Core.Path.{_≡_}
-use mathlib.Core.List.{List}
-use native.Mathlib.Omega.{arith}
-use lib.ListN.{length, set, length-set}
+use lib.ListN.{length}
 use borrow.Author.Needs.{needs}
 use Rattle.io.proofs.Counting.{front}
+use Rattle.sheet_cases.proofs.Room.{room}
 use Rattle.sheet_cases.proofs.build.put.Statement.{statement}
 use Rattle.sheet_cases.proofs.build.put.Tie as tie
-
--- after a byte is written, the next place is within the buffer
-room : (l : List ℕ) (i x : ℕ) → i < length l → i + 1 ≤ length (set l i x)
-room l i x h = omega (arith, length-set l i x)
 
 abbrev Inv-loop : tie.InvT-loop
 Inv-loop sheet₀ at bytes next₀ i₀ sheet next i = (length sheet ≡ length sheet₀) × (next ≤ length sheet)
