@@ -1,19 +1,19 @@
-// A sheet from standard input, at most 131,072 bytes, loaded into tables for the limits of document 01.
+// A sheet from standard input, at most 262,144 bytes, loaded into tables for the limits of document 01.
 // What the loading gave goes to standard output.
 use libc::STDIN_FILENO;
 use loader::load_sheet;
 
 fn main() {
-    let mut bytes = [0u8; 131073];
+    let mut bytes = [0u8; 262145];
     let length = io::read_full(STDIN_FILENO, &mut bytes);
-    if 131072 < length {
+    if 262144 < length {
         sheet_text::print(b"too long\n");
         return;
     }
-    let mut starts = [0u16; 8192];
-    let mut ends = [0u16; 8192];
-    let mut weights = [0u32; 8192];
-    let mut landings = [0u16; 1024];
+    let mut starts = [0u16; limits::MAX_ARCS as usize];
+    let mut ends = [0u16; limits::MAX_ARCS as usize];
+    let mut weights = [0u32; limits::MAX_ARCS as usize];
+    let mut landings = [0u16; limits::MAX_NODES as usize];
     let loaded = load_sheet(
         &bytes[..length],
         &mut starts,

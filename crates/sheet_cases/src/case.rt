@@ -29,10 +29,10 @@ pub fn show_unreadable(name: &[u8]) {
 
 // The verdict alone, with tables for the limits of document 01.
 pub fn verdict(name: &[u8], sheet: &[u8]) {
-    let mut starts = [0u16; 8192];
-    let mut ends = [0u16; 8192];
-    let mut weights = [0u32; 8192];
-    let mut landings = [0u16; 1024];
+    let mut starts = [0u16; limits::MAX_ARCS as usize];
+    let mut ends = [0u16; limits::MAX_ARCS as usize];
+    let mut weights = [0u32; limits::MAX_ARCS as usize];
+    let mut landings = [0u16; limits::MAX_NODES as usize];
     let loaded = load_sheet(sheet, &mut starts, &mut ends, &mut weights, &mut landings);
     print_name(name);
     print_verdict(loaded);
