@@ -27,6 +27,7 @@ fn digit(character: u8) -> u8 {
     }
 }
 
+// A character that stands for itself.
 fn plain(character: u8) -> Sign {
     if character < b' ' || b'~' < character || character == BACKSLASH {
         return Sign::Unreadable;
@@ -34,6 +35,7 @@ fn plain(character: u8) -> Sign {
     Sign::Byte(character)
 }
 
+// Two digits after `\`.
 fn escaped(first: u8, second: u8) -> Sign {
     let high = digit(first);
     if 15 < high {
@@ -53,6 +55,7 @@ fn size_of(first: u8) -> usize
     if first == BACKSLASH { 3 } else { 1 }
 }
 
+// One character, or `\` and the two after it.
 fn sign_of(characters: &[u8]) -> Sign {
     if characters.len() == 1 {
         return plain(characters[0]);

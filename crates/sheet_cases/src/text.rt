@@ -7,6 +7,7 @@ use crate::lines::name_end;
 use crate::notation::Decoded;
 use crate::notation::decode;
 
+// A case whose sheet has at most 256 bytes.
 fn run_case(name: &[u8], notation: &[u8]) {
     let mut sheet = [0u8; 256];
     let decoded = decode(notation, &mut sheet);
@@ -16,6 +17,7 @@ fn run_case(name: &[u8], notation: &[u8]) {
     }
 }
 
+// A line without `: ` is a case that is not readable.
 fn run_line(line: &[u8]) {
     if line.len() == 0 || line[0] == b'#' {
         return;
@@ -29,6 +31,7 @@ fn run_line(line: &[u8]) {
     run_case(&line[..end], &line[start..]);
 }
 
+// The cases of all lines, in their order.
 pub fn run(text: &[u8]) {
     let mut start = 0;
     while start < text.len() {
