@@ -6,12 +6,12 @@ use mathlib.Core.List.{List, map}
 use lib.ListN.{length}
 use lib.Dec.{leb}
 use Rattle.limits.specs.Limits.{maxTerminals}
+use Rattle.limits.specs.Refusals.{shortTables}
 use Rattle.lists.specs.Over.{over}
+use Rattle.answer.specs.Stated.{Stated, refused, ofTables, statedSheet, statedRefusal}
 use Rattle.sheet.specs.Arcs.{Arc, arcs}
 use Rattle.sheet.specs.Landings.{terminalSets}
 use Rattle.sheet.specs.Verdict.{Verdict, good, bad, verdict}
-use Rattle.limits.specs.Refusals.{shortTables}
-use Rattle.answer.specs.Stated.{Stated, refused, ofTables, statedSheet, statedRefusal}
 use Rattle.sheet.specs.declared.record.Record.{Record}
 use Rattle.loader.specs.declared.Loaded.{Loaded}
 use Rattle.loader.specs.declared.Loaded.the-variants.{Sheet, Refused}

@@ -11,7 +11,7 @@ use Rattle.answer.specs.declared.SheetFault.{SheetFault}
 use Rattle.lists.specs.Joined.{joined-append}
 use Rattle.subset.specs.Sets.{union}
 use Rattle.subset.specs.Parts.{union-assoc}
-use Rattle.sheet.specs.Records.{headSize, size}
+use Rattle.sheet.specs.Records.{recordBytes, recordsBytes, headSize, size}
 use Rattle.sheet.specs.Arcs.{Arc, arcsOf, arcs}
 use Rattle.sheet.specs.Landings.{unions, terminalsOf, terminalsAt, heardBy}
 use Rattle.sheet.specs.Verdict.{good, bad, sizes, stateAfter, after, foundIn, readFor, reading}
@@ -26,8 +26,7 @@ pub arcs-append : (a b : List Record) → arcs (a ++ b) ≡ arcs a ++ arcs b
 arcs-append a b = joined-append arcsOf a b
 
 pub sizes-append : (a b : List Record) → sizes (a ++ b) ≡ sizes a + sizes b
-sizes-append [] b = omega arith
-sizes-append (x ∷ a) b = omega (arith, sizes-append a b)
+sizes-append a b = ap length (joined-append recordBytes a b) ∙ length-append (recordsBytes a) (recordsBytes b)
 
 unions-append : (set : Record → ℕ) (a b : List Record) → unions set (a ++ b) ≡ union (unions set a) (unions set b)
 unions-append set [] b = sym (or-zero-l (unions set b))
@@ -54,7 +53,7 @@ state-more n k records x =
     λ i. record { offset = offset-more i; n = n; k = k; arcs = count-more records x i; heard = record { 0 = unions-more heardBy records x i } }
   where
     offset-more : headSize + sizes (records ++ (x ∷ [])) ≡ headSize + sizes records + size x
-    offset-more = omega (arith, sizes-append records (x ∷ []))
+    offset-more = omega (arith, sizes-append records (x ∷ []), length-append (recordBytes x) [])
 
 -- ---- turns
 

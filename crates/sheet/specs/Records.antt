@@ -48,9 +48,7 @@ abbrev pub headSize : ℕ
 headSize = 5
 
 abbrev pub size : Record → ℕ
-size (OneWay start end weight) = 10
-size (BothWays start end weight) = 10
-size (Landing terminal node) = 5
+size x = length (recordBytes x)
 
 -- the bytes of several records, one after the other
 abbrev pub recordsBytes : List Record → List ℕ

@@ -12,7 +12,7 @@ use Rattle.answer.specs.declared.SheetFault.{SheetFault}
 use Rattle.answer.specs.declared.SheetFault.the-variants.{ShortSheet, StrangeMark, BadHead, NoSuchSite, NoSuchStation, Loop, BadPrice, TooManyLegs, AfterTheEnd, Unheard}
 use Rattle.subset.specs.Sets.{full, union}
 use Rattle.sheet.specs.Fields.{number16}
-use Rattle.sheet.specs.Records.{headFields, linkFields, landingFields, headSize, size}
+use Rattle.sheet.specs.Records.{headFields, linkFields, landingFields, recordsBytes, headSize, size}
 use Rattle.sheet.specs.Arcs.{arcsOf, arcs}
 use Rattle.sheet.specs.Landings.{heardBy, heard}
 use Rattle.sheet.specs.declared.fields.HeadFields.{HeadFields}
@@ -40,8 +40,7 @@ pub data Verdict : Type 0 where
 
 -- how many bytes a list of records takes
 abbrev pub sizes : List Record → ℕ
-sizes [] = 0
-sizes (r ∷ rs) = size r + sizes rs
+sizes records = length (recordsBytes records)
 
 -- the state after the head and some records
 abbrev pub stateAfter : ℕ → ℕ → List Record → Reading

@@ -6,6 +6,9 @@ use crate::fields::head_fields;
 use crate::fields::landing_fields;
 use crate::fields::link_fields;
 use crate::fields::u16_at;
+use crate::record::HEAD_SIZE;
+use crate::record::LANDING_SIZE;
+use crate::record::LINK_SIZE;
 use crate::record::Record;
 use answer::SheetFault;
 use subset::Subset;
@@ -63,7 +66,7 @@ fn head_state(n: u16, k: u8) -> Opening
         return Opening::Fault(SheetFault::BadHead(0));
     }
     Opening::Head(Reading {
-        offset: 5,
+        offset: HEAD_SIZE,
         n,
         k,
         arcs: 0,
@@ -219,7 +222,7 @@ impl Reading {
                 end: _,
                 weight: _,
             } => {
-                next.offset = self.offset + 10;
+                next.offset = self.offset + LINK_SIZE;
                 next.arcs = self.arcs + 1;
             }
             Record::BothWays {
@@ -227,12 +230,12 @@ impl Reading {
                 end: _,
                 weight: _,
             } => {
-                next.offset = self.offset + 10;
+                next.offset = self.offset + LINK_SIZE;
                 next.arcs = self.arcs + 2;
             }
             Record::Landing { terminal, node: _ } => {
                 let heard = self.heard;
-                next.offset = self.offset + 5;
+                next.offset = self.offset + LANDING_SIZE;
                 next.heard = heard.union(Subset::single(terminal));
             }
         }

@@ -1,4 +1,4 @@
-// The records between the head and the end of a sheet.
+// The records between the head and the end of a sheet, and how many bytes the records take.
 
 pub enum Record {
     // `LK`: one leg.
@@ -8,3 +8,10 @@ pub enum Record {
     // `ST`: a landing, a site where the station can be heard.
     Landing { terminal: u8, node: u16 },
 }
+
+// The bytes of `HD`, of `LK` or `BK`, and of `ST`, each with its mark.
+pub const HEAD_SIZE: usize = 5;
+
+pub const LINK_SIZE: usize = 10;
+
+pub const LANDING_SIZE: usize = 5;
