@@ -9,13 +9,17 @@ use native.Mathlib.Omega.{arith}
 use lib.Dec.{T, eqb}
 use lib.ListN.{length, getD}
 use borrow.Author.Tests.{ne-eqb, eqb-true}
-use Rattle.lists.specs.ByTest.{by-test}
+use Rattle.lists.specs.Tests.{by-test}
 use Rattle.lists.specs.Select.{keep, select}
 
 -- 1 where the test passes, else 0
 abbrev pub bit : Bool → ℕ
 bit true = 1
 bit false = 0
+
+pub bit-passed : (b : Bool) → T b → bit b ≡ 1
+bit-passed true t = refl
+bit-passed false t = absurd t
 
 -- how often w occurs in a list
 abbrev pub count : ℕ → List ℕ → ℕ

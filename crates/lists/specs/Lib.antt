@@ -1,9 +1,26 @@
-pub mod ByTest
-pub mod Count
+-- tests, and proofs by their answers
+pub mod Tests
+-- what every entry has, the last entry, the entries that pass a test, and sorted lists
 pub mod Every
-pub mod Joined
-pub mod Numbers
-pub mod Over
-pub mod Rest
+pub mod Last
 pub mod Select
 pub mod Sorted
+-- which numbers a list has, and how often; tests over its entries and over the numbers below a limit
+pub mod Count
+pub mod Listed
+pub mod DistinctValues
+pub mod Find
+-- sums, what remains of a list without the entries of another, and least values
+pub mod Sums
+pub mod Remaining
+pub mod Least
+-- sublists, and the entries of a list of any kind
+pub mod Sublists
+pub mod Members
+-- rising numbers
+pub mod Numbers
+pub mod Rising
+-- lists put one after the other, tables written over, the rest of a list
+pub mod Joined
+pub mod Over
+pub mod Rest

@@ -12,7 +12,7 @@ use lib.ListN.{length, getD, set, replicate, length-map, length-set, length-repl
 use lib.Seq.{ext-getD, getD-set-same, getD-set-other}
 use lib.Dec.{eqb}
 use borrow.Author.Tests.{ne-eqb, eqb-true, eqb-false}
-use Rattle.lists.specs.ByTest.{by-test}
+use Rattle.lists.specs.Tests.{by-test}
 use Rattle.lists.specs.Every.{Every, every-imp}
 use Rattle.lists.specs.Sorted.{Sorted}
 use Rattle.lists.specs.Count.{bit, count}
@@ -31,7 +31,8 @@ pub every-number : (a n : ℕ) → Every (λ x. (a ≤ x) × (x < a + n)) (numbe
 every-number a zero = tt
 every-number a (suc n) = (
   (omega arith, omega arith),
-  every-imp (λ x. (suc a ≤ x) × (x < suc a + n)) (λ x. (a ≤ x) × (x < a + suc n)) (λ x h. (omega arith, omega arith)) (numbers (suc a) n) (every-number (suc a) n),
+  every-imp (λ x. (suc a ≤ x) × (x < suc a + n)) (λ x. (a ≤ x) × (x < a + suc n)) (λ x h. (omega arith, omega arith))
+      (numbers (suc a) n) (every-number (suc a) n),
 )
 
 pub sorted-numbers : (a n : ℕ) → Sorted _<_ (numbers a n)

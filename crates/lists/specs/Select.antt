@@ -5,7 +5,7 @@ use mathlib.Core.Path.{_≡_, refl, sym, ap₂, subst}
 use mathlib.Core.Bool.{Bool, true, false}
 use mathlib.Core.List.{List, [], _∷_}
 use lib.Dec.{T}
-use Rattle.lists.specs.ByTest.{by-test}
+use Rattle.lists.specs.Tests.{by-test}
 use Rattle.lists.specs.Every.{Every}
 
 module _ {A : Type 0} where

@@ -7,7 +7,7 @@ use mathlib.Core.List.{List, [], _∷_, _++_}
 use native.Mathlib.Nat.{le-of-suc-le-suc, not-suc-le-zero}
 use lib.Dec.{T}
 use lib.ListN.{length, getD}
-use Rattle.lists.specs.ByTest.{by-test}
+use Rattle.lists.specs.Tests.{by-test}
 use Rattle.lists.specs.Every.{Every, every-imp, every-append, every-at}
 use Rattle.lists.specs.Select.{keep, select, every-select}
 
@@ -35,7 +35,8 @@ module _ {A : Type 0} (R : A → A → Type 0) where
       by-test (p x) (λ b. Sorted (keep b x (select p l))) (λ q. (first, later)) (λ q. later)
 
 -- the same with another relation, which holds between entries that have P
-pub sorted-imp : {A : Type 0} (R S : A → A → Type 0) (P : A → Type 0) → ((x y : A) → P x → P y → R x y → S x y) → (l : List A) → Every P l → Sorted R l → Sorted S l
+pub sorted-imp : {A : Type 0} (R S : A → A → Type 0) (P : A → Type 0) → ((x y : A) → P x → P y → R x y → S x y)
+    → (l : List A) → Every P l → Sorted R l → Sorted S l
 sorted-imp R S P f [] e s = tt
 sorted-imp {A} R S P f (x ∷ l) e s = (later l (e .1) (s .0), sorted-imp R S P f l (e .1) (s .1))
   where

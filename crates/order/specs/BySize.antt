@@ -8,7 +8,7 @@ use mathlib.Core.List.{List, [], _∷_}
 use native.Mathlib.Omega.{arith}
 use lib.Dec.{T, eqb, eqb→eq}
 use lib.ListN.{length, length-append}
-use Rattle.lists.specs.ByTest.{by-test}
+use Rattle.lists.specs.Tests.{by-test}
 use Rattle.lists.specs.Count.{bit, count, count-append, count-select, count-select-none}
 use Rattle.lists.specs.Every.{Every, every-imp, every-append}
 use Rattle.lists.specs.Joined.{joined, joined-same, joined-none}

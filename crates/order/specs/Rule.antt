@@ -16,7 +16,7 @@ use Rattle.lists.specs.Count.{count, count-position}
 use Rattle.lists.specs.Every.{every-at}
 use Rattle.lists.specs.Sorted.{sorted-at}
 use Rattle.subset.specs.Sets.{Part}
-use Rattle.subset.specs.Sizes.{proper-part-size}
+use Rattle.subset.specs.Sequences.{earlier-part}
 use Rattle.order.specs.Order.{ofSize, orderBy, order, inOrder}
 use Rattle.order.specs.BySize.{Before, once-orderBy, length-orderBy, every-orderBy, sorted-orderBy, same-orderBy}
 
@@ -82,10 +82,7 @@ one-position i j h k e =
 
 -- every part of a subset but itself stands before it
 pub part-earlier : (j y : ℕ) → j < maxSubsets → Part y (inOrder j) → y < inOrder j → (i : ℕ) × (i < j) × (inOrder i ≡ y)
-part-earlier j y h p l =
-    let q = position y (omega (arith, below j h)) in
-    let late : j ≤ q .0 → ⊥ = λ a. omega (arith, never-falls j (q .0) a (q .1), ap ones (q .2), proper-part-size (inOrder j) y p l) in
-    (q .0, omega arith, q .2)
+part-earlier j y h p l = earlier-part inOrder maxSubsets j y never-falls (position y (omega (arith, below j h))) h p l
 
 -- ten digits are enough to count the ones of a number below 2^10
 ones-in : (d n : ℕ) → n < 2 ^ d → ones n ≡ onesIn d n

@@ -2,3 +2,5 @@ pub mod Sets
 pub mod Terminals
 pub mod Parts
 pub mod Sizes
+pub mod SetOf
+pub mod Sequences

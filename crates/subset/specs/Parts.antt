@@ -1,18 +1,19 @@
 -- Parts of a set, and the rest: a part has no other stations than the whole, and a part and the rest of it make the whole.
--- The library has three of the laws: lib.Bits.and-self (a set is a part of itself), and-zero-l (the empty set is a part of every set) and
--- or-lt (the union of sets below 2^k is below 2^k).
+-- The library has four of the laws: lib.Bits.and-self (a set is a part of itself), and-zero-l (the empty set is a part of every set) and
+-- or-lt (the union of sets below 2^k is below 2^k), and lib.Pow.ones-lt (the full set for k stations is below 2^k).
 -- Assumes nothing.
 use Prim.Native.Nat.{ℕ, zero, suc, _+_, _-_, _/_, _%_, _^_, _≤_, _<_}
 use mathlib.Core.Path.{_≡_, refl, sym, ap, _∙_, subst}
-use mathlib.Core.Logic.{_⊎_, inl, inr}
-use mathlib.Core.Bool.{Bool, true, false, not, _&&_, _||_}
+use mathlib.Core.Logic.{_≢_, _⊎_, inl, inr}
+use mathlib.Core.Bool.{Bool, true, not, _&&_, _||_, or-assoc}
 use native.Mathlib.Nat.{mod-eq-of-lt}
 use native.Mathlib.Omega.{arith}
 use lib.Arith.{bin-ind}
 use lib.Dec.{T, eqb, eqb→eq, ltb→lt, lt→ltb}
-use lib.Pow.{lt-of-le-ones}
+use lib.Pow.{lt-of-le-ones, pow-pos, pow-lt}
 use lib.Bits.{bitAnd, and-step, and-comm, and-le-r, and-le-l, and-zero-l, and-mask, or-disjoint}
 use borrow.Author.Tests.{eq-eqb, eqb-true}
+use Rattle.lists.specs.Tests.{and-right, or-cases, or-left, or-right}
 use Rattle.subset.specs.Sets.{full, single, has, Part, isPart, rest, union}
 use Rattle.subset.specs.Terminals.{has-zero, has-suc, has-and, has-union, has-rest, has-single, has-full}
 
@@ -27,11 +28,7 @@ part-isPart y w p = eq-eqb (bitAnd y w) y p
 
 -- every station of a part is in the whole
 pub part-has : (y w : ℕ) → Part y w → (i : ℕ) → T (has y i) → T (has w i)
-part-has y w p i t = both-right (has y i) (has w i) (subst T (ap (λ (x : ℕ). has x i) (sym p) ∙ has-and y w i) t)
-  where
-    both-right : (a b : Bool) → T (a && b) → T b
-    both-right true b t = t
-    both-right false b t = absurd t
+part-has y w p i t = and-right (has y i) (has w i) (subst T (ap (λ (x : ℕ). has x i) (sym p) ∙ has-and y w i) t)
 
 -- a set whose every station is in w is a part of w
 pub has-part : (y w : ℕ) → ((i : ℕ) → T (has y i) → T (has w i)) → Part y w
@@ -84,6 +81,13 @@ lt-part k w h = and-mask w k ∙ mod-eq-of-lt h
 pub part-lt : (k w : ℕ) → Part w (full k) → w < 2 ^ k
 part-lt k w p = lt-of-le-ones k (part-le w (full k) p)
 
+-- with a station the full set is not empty, and neither is a single station's set
+pub full-ne : (k : ℕ) → 1 ≤ k → full k ≢ 0
+full-ne k l e = omega (arith, pow-lt {i = 0} {j = k} l)
+
+pub single-ne : (i : ℕ) → single i ≢ 0
+single-ne i e = omega (arith, pow-pos i)
+
 -- a set whose stations are below k is below 2^k
 pub terminals-lt : (k w : ℕ) → ((i : ℕ) → T (has w i) → i < k) → w < 2 ^ k
 terminals-lt k w h = part-lt k w (has-part w (full k) (λ i t. subst T (sym (has-full k i)) (lt→ltb i k (h i t))))
@@ -98,19 +102,11 @@ full-every k w e i l = subst T (sym (ap (λ (x : ℕ). has x i) e ∙ has-full k
 
 -- ---- the union
 
-or-cases : (a b : Bool) → T (a || b) → T a ⊎ T b
-or-cases true b t = inl tt
-or-cases false b t = inr t
-
 -- the union of three sets, however they are grouped
 pub union-assoc : (a b c : ℕ) → union (union a b) c ≡ union a (union b c)
 union-assoc a b c = same-terminals (union (union a b) c) (union a (union b c)) λ i.
-    has-union (union a b) c i ∙ ap (λ (t : Bool). t || has c i) (has-union a b i) ∙ regroup (has a i) (has b i) (has c i)
+    has-union (union a b) c i ∙ ap (λ (t : Bool). t || has c i) (has-union a b i) ∙ or-assoc (has a i) (has b i) (has c i)
     ∙ sym (has-union a (union b c) i ∙ ap (λ (t : Bool). has a i || t) (has-union b c i))
-  where
-    regroup : (x y z : Bool) → ((x || y) || z) ≡ (x || (y || z))
-    regroup true y z = refl
-    regroup false y z = refl
 
 -- a station of the union is in one of the two sets
 pub union-has : (a b i : ℕ) → T (has (union a b) i) → T (has a i) ⊎ T (has b i)
@@ -127,17 +123,9 @@ union-part a b w p q = has-part (union a b) w (λ i t. go i (union-has a b i t))
 -- each set is a part of the union
 pub part-union-left : (a b : ℕ) → Part a (union a b)
 part-union-left a b = has-part a (union a b) (λ i t. subst T (sym (has-union a b i)) (or-left (has a i) (has b i) t))
-  where
-    or-left : (x y : Bool) → T x → T (x || y)
-    or-left true y t = tt
-    or-left false y t = absurd t
 
 pub part-union-right : (a b : ℕ) → Part b (union a b)
 part-union-right a b = has-part b (union a b) (λ i t. subst T (sym (has-union a b i)) (or-right (has a i) (has b i) t))
-  where
-    or-right : (x y : Bool) → T y → T (x || y)
-    or-right true y t = tt
-    or-right false y t = t
 
 -- two parts with no station in common: their sum is a part
 pub sum-part : (y z w : ℕ) → bitAnd y z ≡ 0 → Part y w → Part z w → Part (y + z) w
@@ -146,6 +134,9 @@ sum-part y z w d p q = subst (λ (x : ℕ). Part x w) (or-disjoint y z d) (union
 -- two sets with no station in common are parts of their sum
 pub part-sum : (y z : ℕ) → bitAnd y z ≡ 0 → Part y (y + z)
 part-sum y z d = subst (λ (x : ℕ). Part y x) (or-disjoint y z d) (part-union-left y z)
+
+pub part-sum-right : (y z : ℕ) → bitAnd y z ≡ 0 → Part z (y + z)
+part-sum-right y z d = subst (λ (x : ℕ). Part z x) (or-disjoint y z d) (part-union-right y z)
 
 -- ---- a part and the rest
 

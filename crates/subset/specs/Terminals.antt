@@ -2,13 +2,14 @@
 -- Assumes nothing.
 use Prim.Native.Nat.{ℕ, zero, suc, _+_, _/_, _%_, _^_, _≤_, _<_}
 use mathlib.Core.Path.{_≡_, refl, sym, ap, ap₂, _∙_, subst}
-use mathlib.Core.Bool.{Bool, true, false, not, _&&_, _||_}
+use mathlib.Core.Bool.{Bool, true, false, not, _&&_, _||_, and-false, and-true}
 use native.Mathlib.Nat.{div-one, zero-div, div-eq-of-lt, lt-of-lt-of-le}
 use native.Mathlib.Omega.{arith}
 use lib.Dec.{T, eqb, ltb, eqb·zero-suc, eqb·suc-zero, eqb·suc-suc, leb·suc-suc, leb·suc-zero}
 use lib.Pow.{pow-pos, pow-mono, shr-shr}
 use lib.Bits.{bitAnd, and-step, and-le-l, or-step, or-disjoint}
 use borrow.Author.Tests.{eq-eqb, ne-eqb, lt-ltb, ltb-true, ltb-false}
+use Rattle.lists.specs.Tests.{by-test, by-eq}
 use Rattle.subset.specs.Sets.{empty, full, single, has, rest, union}
 
 -- ---- the lowest station, and the others
@@ -25,12 +26,7 @@ has-suc w i =
 
 -- to prove P of the lowest station's test, prove it of true where the number is odd and of false where it is even
 by-odd : (w : ℕ) (P : Bool → Type 0) → (w % 2 ≡ 1 → P true) → (w % 2 ≡ 0 → P false) → P (eqb (w % 2) 1)
-by-odd w P f g = go (w % 2) refl
-  where
-    go : (d : ℕ) → w % 2 ≡ d → P (eqb d 1)
-    go zero e = g e
-    go (suc zero) e = f e
-    go (suc (suc d)) e = absurd (omega arith)
+by-odd w P f g = by-eq (w % 2) 1 P f (λ n. g (omega arith))
 
 pub has-and : (a b i : ℕ) → has (bitAnd a b) i ≡ (has a i && has b i)
 has-and a b zero =
@@ -68,14 +64,6 @@ has-rest w y zero =
     (by-odd y (λ t. eqb (rest w y % 2) 1 ≡ (eqb (w % 2) 1 && not t))
     (λ e. ne-eqb (rest w y % 2) 1 (λ q. omega arith) ∙ sym (and-false (eqb (w % 2) 1)))
     (λ e. ap (λ (x : ℕ). eqb x 1) (let q : rest w y % 2 ≡ w % 2 = omega arith in q) ∙ sym (and-true (eqb (w % 2) 1))))
-  where
-    and-false : (b : Bool) → (b && false) ≡ false
-    and-false true = refl
-    and-false false = refl
-
-    and-true : (b : Bool) → (b && true) ≡ b
-    and-true true = refl
-    and-true false = refl
 has-rest w y (suc i) =
     let s = and-step w y in
     let l = and-le-l (w / 2) (y / 2) in
@@ -114,11 +102,7 @@ has-full (suc k) (suc i) =
 
 -- the stations of a set below 2^k are below k
 pub has-lt : (k w i : ℕ) → w < 2 ^ k → T (has w i) → i < k
-has-lt k w i h t = go (ltb i k) refl
+has-lt k w i h t = by-test (ltb i k) (λ _. i < k) (λ e. ltb-true i k e) (λ e. absurd (subst T (none (ltb-false i k e)) t))
   where
     none : k ≤ i → has w i ≡ false
     none l = ap (λ (x : ℕ). eqb (x % 2) 1) (div-eq-of-lt (lt-of-lt-of-le h (pow-mono l)))
-
-    go : (b : Bool) → ltb i k ≡ b → i < k
-    go true e = ltb-true i k e
-    go false e = absurd (subst T (none (ltb-false i k e)) t)
