@@ -1,0 +1,320 @@
+-- The theorems, each a statement over the definitions of this folder. The laws that prove them are in laws/. A sentence in quotation marks
+-- is document 01's, unless another document is named.
+-- Assumes nothing.
+use Prim.Native.Nat.{ℕ, suc, _+_, _-_, _*_, _^_, _≤_, _<_}
+use mathlib.Core.Path.{_≡_, sym, subst}
+use mathlib.Core.Logic.{_≢_, _↔_}
+use mathlib.Core.Bool.{not}
+use mathlib.Core.Option.{none, some}
+use mathlib.Core.List.{List, [], _∷_, _++_}
+use native.Mathlib.Omega.{arith}
+use lib.Count.{ones}
+use lib.Dec.{T}
+use lib.ListN.{length}
+use lib.Pow.{ones-lt}
+use Rattle.lists.specs.Every.{Every}
+use Rattle.lists.specs.Count.{count}
+use Rattle.lists.specs.Find.{first}
+use Rattle.lists.specs.Listed.{listed, every-listed, Distinct}
+use Rattle.lists.specs.Sums.{same-count, sumTo}
+use Rattle.subset.specs.Sets.{full, single, Part}
+use Rattle.subset.specs.Parts.{part-le, full-ne}
+use Rattle.subset.specs.Sequences.{earlier-part}
+use Rattle.graph.specs.Graph.{Graph, Sound, Landing}
+use Rattle.graph.specs.Paths.{DirectedPath, Reaches, ReachesAll, reachedIn, isReached, reachedNodes, Touched, OnePath}
+use Rattle.graph.specs.Subtrees.{Subtree, held, Covers, total, isSubtree, isCovering}
+use Rattle.graph.specs.LeastTotals.{leastTotal, leastCell, IsLeastTotal, IsCostTable, Room}
+use Rattle.graph.specs.Growth.{firstExtending, keptThen, growIn, grow, kept}
+use Rattle.graph.specs.Tables.{Closed, Support, Supported, Capped, StartedSet, ClosedSet, put}
+use Rattle.graph.specs.Layout.{isDone, fits, splits, followIn, layoutIn, layout, rootOf, LowestCheapest}
+use Rattle.graph.specs.laws.Holding.{held-reached, reached-held}
+use Rattle.graph.specs.laws.SubtreeParts.{start-reached}
+use Rattle.graph.specs.laws.SubtreeSize.{subtree-length}
+use Rattle.graph.specs.laws.Growing.{grow-enough, grow-rule, parts-count, kept-subtree, reached-kept, kept-reached, kept-total}
+use Rattle.graph.specs.laws.Growing.{kept-all, subtree-kept, kept-same, whole-subtree, counts-whole}
+use Rattle.graph.specs.laws.ReachTest.{reached-path, path-reached, reached-enough, reached-node, node-reached}
+use Rattle.graph.specs.laws.SubtreeTest.{test-subtree, subtree-passes, test-covers, covers-passes}
+use Rattle.graph.specs.laws.LowerBound.{subtree-lower}
+use Rattle.graph.specs.laws.UpperBound.{attain}
+use Rattle.graph.specs.laws.LeastMeaning.{least-total, least-bound, room-charge}
+use Rattle.graph.specs.laws.CostTable.{both-cost-table, cost-table-capped, cost-table-closed, cost-table-supported}
+use Rattle.graph.specs.laws.LayoutRule.{arc-falls, follow-enough, layout-enough, layout-nothing, layout-arc, layout-split}
+use Rattle.graph.specs.laws.LayoutTotal.{layout-subtree, step-passes, split-measure}
+use Rattle.graph.specs.laws.Lowering.{unfilled-supported, lower-supported, lower-capped, sum-falls}
+use Rattle.graph.specs.laws.Settling.{splits-start, started-lower, arcs-close, closed-kept, sets-closed}
+use Rattle.graph.specs.laws.Finite.{cell-finite, full-finite, full-none}
+use Rattle.graph.specs.laws.Roots.{root-facts, no-root, root-lower}
+use Rattle.graph.specs.laws.UniquePaths.{subtree-one-path, one-path-subtree, subtree-distinct, subtree-no-loop, touched-held}
+
+-- ==== Tests, and definitions with a number of turns
+
+-- each test passes exactly where the definition beside it in its statement holds
+pub reach-test : (G : Graph) (L : List ℕ) (u v : ℕ) → T (isReached G L u v) ↔ DirectedPath G L u v
+reach-test G L u v = (reached-path G L u (length L) v, path-reached G L u v)
+
+pub node-test : (G : Graph) (L : List ℕ) (u v : ℕ) → T (listed v (reachedNodes G L u)) ↔ ((v < G .nodes) × DirectedPath G L u v)
+node-test G L u v = (reached-node G L u v, λ h. node-reached G L u v (h .0) (h .1))
+
+pub subtree-test : (G : Graph) (r : ℕ) (L : List ℕ) → T (isSubtree G r L) ↔ Subtree G r L
+subtree-test G r L = (test-subtree G r L, subtree-passes G r L)
+
+pub covers-test : (G : Graph) (r : ℕ) (L : List ℕ) (w : ℕ) → T (isCovering G r L w) ↔ Covers G r L w
+covers-test G r L w = (test-covers G r L w, covers-passes G r L w)
+
+-- more turns than the definition takes change nothing
+pub reach-turns : (G : Graph) (L : List ℕ) (u m v : ℕ) → length L ≤ m → listed v (reachedIn m G L u) ≡ isReached G L u v
+reach-turns = reached-enough
+
+pub grow-turns : (G : Graph) (m : ℕ) (H L : List ℕ) → length L ≤ m → growIn m G H L ≡ grow G H L
+grow-turns = grow-enough
+
+pub follow-turns : (G : Graph) → Sound G → (c : ℕ → ℕ → ℕ) (top : ℕ) (lay : ℕ → ℕ → List ℕ) (m v w : ℕ) → c v w < m
+    → followIn m G c top lay v w ≡ followIn (suc (c v w)) G c top lay v w
+follow-turns = follow-enough
+
+pub layout-turns : (G : Graph) → Sound G → (c : ℕ → ℕ → ℕ) (top m v w : ℕ) → w < m → layoutIn m G c top v w ≡ layout G c top v w
+layout-turns = layout-enough
+
+-- the rules without turns. Document 02, W-211: "the first listed leg from a held site to an unheld one is kept, again and again"
+pub growth-rule : (G : Graph) (H L : List ℕ) → grow G H L ≡ keptThen (firstExtending G H L) (λ e. grow G (G .end e ∷ H) L)
+growth-rule = grow-rule
+
+-- "Laying out a plan", of any cell function
+module _ (G : Graph) (sound : Sound G) (c : ℕ → ℕ → ℕ) (top v w : ℕ) where
+  -- "nothing is added when W is empty, or when W is one station and v is its landing"
+  pub rule-nothing : T (isDone G v w) → layout G c top v w ≡ []
+  rule-nothing = layout-nothing G sound c top v w
+
+  -- "Otherwise the lowest-numbered leg from v whose price plus the finite cell (end, W) equals cell (v, W) is added, and its end is
+  -- followed with W"
+  pub rule-arc : (e : ℕ) → T (not (isDone G v w)) → first (fits G c top v w) (G .arcs) ≡ some e
+      → layout G c top v w ≡ e ∷ layout G c top (G .end e) w
+  rule-arc = layout-arc G sound c top v w
+
+  -- "If there is none, W is split: the lowest Y within W ..; Y is laid first, then the rest"
+  pub rule-split : (y : ℕ) → T (not (isDone G v w)) → first (fits G c top v w) (G .arcs) ≡ none → first (splits G c v w) w ≡ some y
+      → layout G c top v w ≡ layout G c top v y ++ layout G c top v (w - y)
+  rule-split = layout-split G sound c top v w
+
+-- ==== 1. The computed least total is the least
+
+-- "the least total of a directed subtree with root v that holds a landing of each station in W, or .. where none exists"
+pub least-total-is-least : (G : Graph) (v w : ℕ) → IsLeastTotal G v w (leastTotal G v w)
+least-total-is-least = least-total
+
+-- "A finite cell is at most 1,000,000 times (n − 1)"; document 02, W-210: "The finite limit grows by 1,000,000 times n". No weight is above
+-- p, and no charge above q.
+pub least-total-limit : (G : Graph) → Sound G → (p q : ℕ) → ((e : ℕ) → e < G .arcs → G .weight e ≤ p) → ((v : ℕ) → v < G .nodes → G .charge v ≤ q)
+    → (v w x : ℕ) → leastTotal G v w ≡ some x → x ≤ p * (G .nodes - 1) + q * G .nodes
+least-total-limit G sound p q heavy dear v w x e = least-bound G sound p q heavy dear v w x (subst (IsLeastTotal G v w) e (least-total G v w))
+
+-- ==== 2. Closed and supported tables
+
+-- no subtree that holds a landing of each terminal of a set costs less than the cell of a closed table
+pub closed-is-lower-bound : (G : Graph) → Sound G → (c : ℕ → ℕ → ℕ) → Closed G c
+    → (r w : ℕ) (L : List ℕ) → w < 2 ^ G .terminals → Subtree G r L → Covers G r L w → c r w ≤ total G r L
+closed-is-lower-bound G sound c C r w L small t cov = subtree-lower G sound c C r L w small t cov
+
+-- and some such subtree costs no more than a finite cell of a supported one, where the set is not empty
+pub supported-is-upper-bound : (G : Graph) → Sound G → (c : ℕ → ℕ → ℕ) (top : ℕ) → Supported G c top
+    → (v w : ℕ) → v < G .nodes → w ≢ 0 → w < 2 ^ G .terminals → c v w < top
+    → (L : List ℕ) × Subtree G v L × Covers G v L w × (total G v L ≤ c v w)
+supported-is-upper-bound = attain
+
+-- "The empty set costs 0", and other cells are least totals, exactly where the table is closed and supported, no cell being above `top`
+pub closed-and-supported : (G : Graph) → Sound G → (c : ℕ → ℕ → ℕ) (top : ℕ) → Room G top
+    → (Capped G c top × Closed G c × Supported G c top) ↔ IsCostTable G c top
+closed-and-supported G sound c top room = (
+  (λ h. both-cost-table G sound c top room (h .0) (h .1) (h .2)),
+  (λ t. (cost-table-capped G sound c top room t, cost-table-closed G sound c top room t, cost-table-supported G sound c top room t)),
+)
+
+-- ==== 3. Growth
+
+module _ (G : Graph) (r : ℕ) (L : List ℕ) where
+  -- what is kept is a part of the list: no arc more often
+  pub growth-parts : (e : ℕ) → count e (kept G r L) ≤ count e L
+  growth-parts e = omega (arith, parts-count G r L e)
+
+  -- what is kept is a directed subtree
+  pub growth-subtree : r < G .nodes → Every (λ e. e < G .arcs) L → Subtree G r (kept G r L)
+  growth-subtree on arcs = kept-subtree G r L on (every-listed (λ e. e < G .arcs) L arcs)
+
+  -- it holds exactly what the list reaches from the root
+  pub growth-holds : (v : ℕ) → T (listed v (held G r (kept G r L))) ↔ DirectedPath G L r v
+  growth-holds v = (kept-reached G r L v, λ p. reached-kept G r L p)
+
+  -- it costs no more than the list, and as much only where it has each arc as often
+  pub growth-total : total G r (kept G r L) ≤ total G r L
+  growth-total = omega (arith, kept-total G r L)
+
+  pub growth-equal-total : Sound G → Every (λ e. e < G .arcs) L → total G r (kept G r L) ≡ total G r L
+      → (e : ℕ) → count e (kept G r L) ≡ count e L
+  growth-equal-total sound arcs q e =
+      sym (same-count L (kept G r L) (kept-same G r L (kept-all G r L sound (every-listed (λ e. e < G .arcs) L arcs) (omega arith))) e)
+
+  -- a list of arcs is a directed subtree exactly where growth keeps all of it, up to order: each arc as often
+  pub subtree-iff-kept : r < G .nodes → Every (λ e. e < G .arcs) L → Subtree G r L ↔ ((e : ℕ) → count e (kept G r L) ≡ count e L)
+  subtree-iff-kept on arcs = (
+    (λ t e. sym (same-count L (kept G r L) (kept-same G r L (subtree-kept G r L t)) e)),
+    (λ same. whole-subtree G r L on (every-listed (λ e. e < G .arcs) L arcs) (counts-whole G r L same)),
+  )
+
+-- ==== 4. The layout at the least totals
+
+-- "Laying out a plan": at a finite cell of a set that is not empty, the arcs laid out are a directed subtree with that root that holds a
+-- landing of each terminal of the set, its total is the cell, and it has at most n − 1 arcs
+pub record Laid (G : Graph) (v w x : ℕ) (L : List ℕ) : Type 0 where
+  pub subtree : Subtree G v L
+  pub covers : Covers G v L w
+  pub cell : total G v L ≡ x
+  pub few : length L ≤ G .nodes - 1
+
+-- "Following and splitting hand the work to each other until the sets are used up": the size of the set combined with the cell's cost falls
+-- with the arc that is followed, of any cell function
+pub following-falls : (G : Graph) → Sound G → (c : ℕ → ℕ → ℕ) (top v w e : ℕ) → first (fits G c top v w) (G .arcs) ≡ some e
+    → c (G .end e) w + ones w < c v w + ones w
+following-falls G sound c top v w e q = omega (arith, arc-falls G sound c top v w e q)
+
+module _ (G : Graph) (sound : Sound G) (top : ℕ) (room : Room G top) (c : ℕ → ℕ → ℕ) (table : IsCostTable G c top) where
+  -- the cost table is closed and supported, and no charge is above `top`
+  closed : Closed G c
+  closed = cost-table-closed G sound c top room table
+
+  supported : Supported G c top
+  supported = cost-table-supported G sound c top room table
+
+  charges : (v : ℕ) → v < G .nodes → G .charge v ≤ top
+  charges v on = omega (arith, room-charge G top room v on)
+
+  pub layout-is-least : (v w : ℕ) → v < G .nodes → w ≢ 0 → w < 2 ^ G .terminals → c v w < top → Laid G v w (c v w) (layout G c top v w)
+  layout-is-least v w on ne small finite =
+      let (t, cov, e) = layout-subtree G sound c top closed supported charges v w on ne small finite in
+      record { subtree = t; covers = cov; cell = e; few = omega (arith, subtree-length G sound v (layout G c top v w) t) }
+
+  -- there, where something is to be added, an arc fits or a part splits the set
+  pub step-applies : (v w : ℕ) → v < G .nodes → w ≢ 0 → w < 2 ^ G .terminals → c v w < top → T (not (isDone G v w))
+      → first (fits G c top v w) (G .arcs) ≡ none → first (splits G c v w) w ≡ none → ⊥
+  step-applies = step-passes G sound c top closed supported charges
+
+  -- and with both parts of a split
+  pub splitting-falls : (v w y : ℕ) → v < G .nodes → w < 2 ^ G .terminals → first (splits G c v w) w ≡ some y
+      → (c v y + ones y < c v w + ones w) × (c v (w - y) + ones (w - y) < c v w + ones w)
+  splitting-falls = split-measure G sound c top closed supported charges
+
+-- ==== 5. What a search needs
+
+-- a table in which only the empty set has finite cells is supported
+pub unfilled-is-supported : (G : Graph) (c : ℕ → ℕ → ℕ) (top : ℕ) → ((v w : ℕ) → v < G .nodes → w ≢ 0 → w < 2 ^ G .terminals → top ≤ c v w)
+    → Supported G c top
+unfilled-is-supported = unfilled-supported
+
+-- lowering a cell to no less than what a landing, an arc or a split gives keeps the table supported
+pub lowering-keeps-supported : (G : Graph) (c : ℕ → ℕ → ℕ) (top v w x : ℕ) → x ≤ c v w → Support G c top v w x
+    → Supported G c top → Supported G (put c v w x) top
+lowering-keeps-supported = lower-supported
+
+-- it keeps the cells at `top` or below, and the sum of the set's cells over the nodes falls, so that lowering comes to an end
+pub lowering-keeps-capped : (G : Graph) (c : ℕ → ℕ → ℕ) (top v w x : ℕ) → x ≤ c v w → Capped G c top → Capped G (put c v w x) top
+lowering-keeps-capped = lower-capped
+
+pub lowering-falls : (c : ℕ → ℕ → ℕ) (v w x n : ℕ) → v < n → x < c v w → sumTo n (λ u. put c v w x u w) < sumTo n (λ u. c u w)
+lowering-falls = sum-falls
+
+-- A set is started by trying each landing, and each split into two parts with finite cells by its smaller number, where no cell of the set is
+-- above `top` and no cell of a part is below the charge of its node. It stays started while its cells fall and those of its proper parts
+-- stay.
+pub tries-start-set : (G : Graph) (c : ℕ → ℕ → ℕ) (top w : ℕ)
+    → ((v i : ℕ) → v < G .nodes → i < G .terminals → w ≡ single i → Landing G i v → c v w ≤ G .charge v)
+    → ((v y : ℕ) → v < G .nodes → Part y w → y ≢ 0 → y < w - y → c v y < top → c v (w - y) < top → c v w + G .charge v ≤ c v y + c v (w - y))
+    → ((v : ℕ) → v < G .nodes → c v w ≤ top) → ((v y : ℕ) → v < G .nodes → y ≢ 0 → Part y w → G .charge v ≤ c v y) → StartedSet G c w
+tries-start-set = splits-start
+
+pub lowering-keeps-started : (G : Graph) (c d : ℕ → ℕ → ℕ) (w : ℕ) → ((v y : ℕ) → v < G .nodes → Part y w → y ≢ w → d v y ≡ c v y)
+    → ((v : ℕ) → v < G .nodes → d v w ≤ c v w) → StartedSet G c w → StartedSet G d w
+lowering-keeps-started = started-lower
+
+-- after that, a pass over all arcs that lowers nothing leaves the set closed; only arcs with a finite end are tried
+pub pass-closes-set : (G : Graph) → Sound G → (c : ℕ → ℕ → ℕ) (top w : ℕ) → StartedSet G c w → ((v : ℕ) → v < G .nodes → c v w ≤ top)
+    → ((e : ℕ) → e < G .arcs → c (G .end e) w < top → c (G .start e) w ≤ G .weight e + G .charge (G .start e) + c (G .end e) w)
+    → ClosedSet G c w
+pass-closes-set = arcs-close
+
+-- a closed set stays closed while its cells and those of its parts stay
+pub others-keep-closed : (G : Graph) → Sound G → (c d : ℕ → ℕ → ℕ) (w : ℕ) → ((v y : ℕ) → v < G .nodes → Part y w → d v y ≡ c v y)
+    → ClosedSet G c w → ClosedSet G d w
+others-keep-closed = closed-kept
+
+-- "no size precedes a smaller one": where each set occurs and sizes never fall, the parts of a set are finished before it is taken, entries
+-- of 2^k or more being passed over
+pub parts-finished : (k m : ℕ) (at : ℕ → ℕ) (Finished : ℕ → Type 0)
+    → ((i j : ℕ) → i ≤ j → j < m → ones (at i) ≤ ones (at j)) → ((w : ℕ) → w < 2 ^ k → (i : ℕ) × (i < m) × (at i ≡ w))
+    → (j : ℕ) → j < m → at j < 2 ^ k → ((i : ℕ) → i < j → at i < 2 ^ k → Finished (at i)) → (y : ℕ) → Part y (at j) → y ≢ at j → Finished y
+parts-finished k m at Finished rise occurs j l small done y part ne =
+    let le = part-le y (at j) part in
+    let (i, before, e) = earlier-part at m j y rise (occurs y (omega arith)) l part (omega arith) in
+    subst Finished e (done i before (omega arith))
+
+-- where every set is closed and the table is supported, it is the cost table
+pub sets-make-cost-table : (G : Graph) → Sound G → (c : ℕ → ℕ → ℕ) (top : ℕ) → Room G top → Capped G c top → Supported G c top
+    → ((v : ℕ) → v < G .nodes → c v 0 ≡ 0) → ((w : ℕ) → w ≢ 0 → w < 2 ^ G .terminals → ClosedSet G c w) → IsCostTable G c top
+sets-make-cost-table G sound c top room capped S nothing sets = both-cost-table G sound c top room capped (sets-closed G c nothing sets) S
+
+-- ==== 6. Where a cell is finite
+
+-- exactly where directed paths lead from the node to a landing of each terminal of the set
+pub finite-iff-reaches : (G : Graph) (top : ℕ) → Room G top → (v w : ℕ) → v < G .nodes → w ≢ 0 → (leastCell G top v w < top) ↔ Reaches G v w
+finite-iff-reaches = cell-finite
+
+-- for the full set: to a landing of every terminal (the mission, point 3)
+pub full-finite-iff-reaches : (G : Graph) (top : ℕ) → Room G top → 1 ≤ G .terminals → (v : ℕ) → v < G .nodes
+    → (leastCell G top v (full (G .terminals)) < top) ↔ ReachesAll G v
+full-finite-iff-reaches = full-finite
+
+-- refusal 12, "every full-set cell is "none"", of the nodes that may be a root: exactly where none of them has such paths
+pub no-plan-iff : (G : Graph) (top : ℕ) → Room G top → 1 ≤ G .terminals → (c : ℕ → ℕ → ℕ) → IsCostTable G c top
+    → ((r : ℕ) → r < G .nodes → T (G .mayRoot r) → c r (full (G .terminals)) ≡ top) ↔ ((r : ℕ) → r < G .nodes → T (G .mayRoot r) → ReachesAll G r → ⊥)
+no-plan-iff G top room some-terminal c table = (
+  (λ h r on may. full-none G top room some-terminal c table r on .0 (h r on may)),
+  (λ h r on may. full-none G top room some-terminal c table r on .1 (h r on may)),
+)
+
+-- ==== 7. Document 01's directed subtree is document 004's
+
+-- "every other node of T is reachable from r through a unique directed path" (document 004), of a list of arcs, none twice and none a loop.
+-- A path is document 01's row of arcs, in which a node may occur again: an arc back to the root makes a second path.
+pub subtree-iff-one-path : (G : Graph) (r : ℕ) (L : List ℕ) → r < G .nodes
+    → Every (λ e. e < G .arcs) L → Distinct L → Every (λ e. G .start e ≢ G .end e) L
+    → Subtree G r L ↔ ((v : ℕ) → v ≢ r → Touched G L v → OnePath G L r v)
+subtree-iff-one-path G r L on arcs distinct no-loop = (subtree-one-path G r L, one-path-subtree G r L on arcs distinct no-loop)
+
+-- a subtree has no arc twice and no loop, so that these may stand on the other side
+pub subtree-iff-distinct : (G : Graph) (r : ℕ) (L : List ℕ) → r < G .nodes → Every (λ e. e < G .arcs) L
+    → Subtree G r L ↔ (Distinct L × Every (λ e. G .start e ≢ G .end e) L × ((v : ℕ) → v ≢ r → Touched G L v → OnePath G L r v))
+subtree-iff-distinct G r L on arcs = (
+  (λ t. (subtree-distinct G r L t, subtree-no-loop G r L t, subtree-one-path G r L t)),
+  (λ h. one-path-subtree G r L on arcs (h .0) (h .1) (h .2)),
+)
+
+-- a subtree holds exactly the nodes that its arcs reach from the root, and every node that they touch
+pub subtree-holds : (G : Graph) (r : ℕ) (L : List ℕ) → Subtree G r L → (v : ℕ) → T (listed v (held G r L)) ↔ DirectedPath G L r v
+subtree-holds G r L t v = (held-reached G r L (start-reached t) v, λ p. reached-held G r L p)
+
+pub subtree-touches : (G : Graph) (r : ℕ) (L : List ℕ) → Subtree G r L → (v : ℕ) → Touched G L v → T (listed v (held G r L))
+subtree-touches = touched-held
+
+-- ==== 8. The root
+
+-- "The root is the lowest site whose full-set cell is least", of the nodes that may be a root
+pub root-rule : (G : Graph) (c : ℕ → ℕ → ℕ) (v : ℕ) → rootOf G c ≡ some v → LowestCheapest G (λ u. c u (full (G .terminals))) v
+root-rule = root-facts
+
+-- it names no node only where no node may be a root
+pub root-none : (G : Graph) (c : ℕ → ℕ → ℕ) → rootOf G c ≡ none → (u : ℕ) → u < G .nodes → T (not (G .mayRoot u))
+root-none = no-root
+
+-- at the least totals no directed subtree with a root that may be one, and that holds a landing of every terminal, costs less
+pub root-least : (G : Graph) (c : ℕ → ℕ → ℕ) (top : ℕ) → 1 ≤ G .terminals → IsCostTable G c top → (v : ℕ) → rootOf G c ≡ some v
+    → (r : ℕ) (L : List ℕ) → T (G .mayRoot r) → Subtree G r L → Covers G r L (full (G .terminals)) → c v (full (G .terminals)) ≤ total G r L
+root-least G c top some-terminal table v q =
+    root-lower G top c table (full (G .terminals)) v (full-ne (G .terminals) some-terminal) (ones-lt (G .terminals)) (root-facts G c v q)

@@ -1,0 +1,31 @@
+-- paths, and the nodes that a list of arcs holds
+pub mod Reaching
+pub mod Holding
+-- subtrees: arc by arc, their size, their one path to each node
+pub mod SubtreeParts
+pub mod SubtreeSize
+pub mod UniquePaths
+-- growth
+pub mod GrownLists
+pub mod Growing
+-- what the tests say, and which nodes are the root of a subtree
+pub mod ReachTest
+pub mod SubtreeTest
+pub mod Finite
+-- the least totals, and the root
+pub mod LeastMeaning
+pub mod Roots
+-- closed tables: the lower bound
+pub mod Charged
+pub mod LowerBound
+-- supported tables: the upper bound
+pub mod UpperBound
+-- a table as a search changes it: one cell lowered, one set closed
+pub mod Lowering
+pub mod Settling
+-- of the tables without a cell above `top`, the cost table is the one that is closed and supported
+pub mod Offers
+pub mod CostTable
+-- the layout
+pub mod LayoutRule
+pub mod LayoutTotal
