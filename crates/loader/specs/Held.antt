@@ -11,19 +11,17 @@ use Rattle.limits.specs.Limits.{maxTerminals}
 use Rattle.lists.specs.Every.{Every}
 use Rattle.lists.specs.Numbers.{length-values, getD-values}
 use Rattle.lists.specs.Over.{over, getD-over, getD-later}
-use Rattle.sheet.specs.Arcs.{Arc, arc, arcs}
+use Rattle.subset.specs.Sets.{terminalsIn}
+use Rattle.sheet.specs.Arcs.{Arc, arc, arcs, arcAt}
 use Rattle.sheet.specs.Landings.{terminalsAt, terminalSets}
 use Rattle.sheet.specs.Records.{RecordOk}
 use Rattle.sheet.specs.Heard.{terminalsAt-lt}
 use Rattle.sheet.specs.declared.record.Record.{Record}
-use Rattle.loader.specs.Tables.{Tables, terminalsIn, loaded}
+use Rattle.loader.specs.Tables.{Tables, loaded}
 
 module _ (n : ℕ) (records : List Record) (t : Tables) where
-  -- leg i of the sheet; past the legs a leg of zeros
-  abbrev pub arcAt : ℕ → Arc
-  arcAt i = getD (arcs records) i (arc 0 0 0)
-
-  column-held : (f : Arc → ℕ) (old : List ℕ) (i : ℕ) → i < length (arcs records) → getD (over (map f (arcs records)) old) i (f (arc 0 0 0)) ≡ f (arcAt i)
+  column-held : (f : Arc → ℕ) (old : List ℕ) (i : ℕ) → i < length (arcs records)
+      → getD (over (map f (arcs records)) old) i (f (arc 0 0 0)) ≡ f (arcAt records i)
   column-held f old i h =
       getD-over (map f (arcs records)) old i (f (arc 0 0 0)) (omega (arith, length-map (arcs records) f)) ∙ List·getD-map f (arcs records) i (arc 0 0 0)
 
@@ -32,15 +30,15 @@ module _ (n : ℕ) (records : List Record) (t : Tables) where
 
   -- the first entries
   module _ (i : ℕ) (h : i < length (arcs records)) where
-    pub start-held : getD (loaded n records t .starts) i 0 ≡ arcAt i .start
+    pub start-held : getD (loaded n records t .starts) i 0 ≡ arcAt records i .start
     unfolding loaded
     start-held = column-held (λ a. a .start) (t .starts) i h
 
-    pub end-held : getD (loaded n records t .ends) i 0 ≡ arcAt i .end
+    pub end-held : getD (loaded n records t .ends) i 0 ≡ arcAt records i .end
     unfolding loaded
     end-held = column-held (λ a. a .end) (t .ends) i h
 
-    pub weight-held : getD (loaded n records t .weights) i 0 ≡ arcAt i .weight
+    pub weight-held : getD (loaded n records t .weights) i 0 ≡ arcAt records i .weight
     unfolding loaded
     weight-held = column-held (λ a. a .weight) (t .weights) i h
 

@@ -1,11 +1,10 @@
 -- The lent tables that a sheet is loaded into: how long they must be, and what they hold afterwards.
 -- Assumes nothing.
-use Prim.Native.Nat.{ℕ, _%_, _^_}
+use Prim.Native.Nat.{ℕ}
 use mathlib.Core.Bool.{Bool, cond, _&&_}
 use mathlib.Core.List.{List, map}
 use lib.ListN.{length}
 use lib.Dec.{leb}
-use Rattle.limits.specs.Limits.{maxTerminals}
 use Rattle.limits.specs.Refusals.{shortTables}
 use Rattle.lists.specs.Over.{over}
 use Rattle.answer.specs.Stated.{Stated, refused, ofTables, statedSheet, statedRefusal}
@@ -25,10 +24,6 @@ pub record Tables : Type 0 where
 
 abbrev pub tables : List ℕ → List ℕ → List ℕ → List ℕ → Tables
 tables starts ends weights landings = record { starts = starts; ends = ends; weights = weights; landings = landings }
-
--- what an entry of the landing sets says of its site: the stations are its lowest ten bits
-abbrev pub terminalsIn : ℕ → ℕ
-terminalsIn entry = entry % 2 ^ maxTerminals
 
 -- tables of these lengths are long enough: each has at least the length stated for it, the number of legs or n
 abbrev pub longEnough : (n arcCount starts ends weights landings : ℕ) → Bool

@@ -14,7 +14,7 @@ ghost use Prim.Native.Nat.{_+_, _≤_, _<_};
 ghost use lib.ListN.{length, getD, drop, set, replicate};
 ghost use Rattle.limits.specs.Limits.{maxTerminals};
 ghost use Rattle.subset.specs.Sets.{union, single};
-ghost use Rattle.loader.specs.Tables.{tables, terminalsIn, longEnough, loadedBy, returned, outcome, loadingOf};
+ghost use Rattle.loader.specs.Tables.{tables, longEnough, loadedBy, returned, outcome, loadingOf};
 ghost use Rattle.loader.specs.Loading.{Loadable, Loading};
 ghost use Rattle.loader.specs.Writing.{Fits, withRecord};
 ghost use Rattle.sheet.specs.Verdict.{verdict};
@@ -23,13 +23,6 @@ ghost use Rattle.sheet.specs.Verdict.{verdict};
 pub enum Loaded {
     Sheet { n: u16, k: u8, arcs: u16 },
     Refused(Refusal),
-}
-
-// The stations of a landing entry: its lowest ten bits.
-pub fn terminals_in(entry: u16) -> Subset
-    ensures { λ r. ⌜ r .0 ≡ terminalsIn entry ⌝ }
-{
-    Subset(entry % limits::MAX_SUBSETS)
 }
 
 // Whether tables of these lengths are long enough for a sheet with n sites and so many legs.

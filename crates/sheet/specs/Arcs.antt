@@ -2,6 +2,7 @@
 -- Assumes nothing.
 use Prim.Native.Nat.{ℕ}
 use mathlib.Core.List.{List, [], _∷_}
+use lib.ListN.{getD}
 use Rattle.lists.specs.Joined.{joined}
 use Rattle.sheet.specs.declared.record.Record.{Record}
 use Rattle.sheet.specs.declared.record.Record.the-variants.{OneWay, BothWays, Landing}
@@ -24,3 +25,7 @@ arcsOf (Landing terminal node) = []
 -- the legs of a list of records; a leg's number is its place in this list
 abbrev pub arcs : List Record → List Arc
 arcs records = joined arcsOf records
+
+-- leg e of the records; past the legs a leg of zeros
+abbrev pub arcAt : List Record → ℕ → Arc
+arcAt records e = getD (arcs records) e (arc 0 0 0)

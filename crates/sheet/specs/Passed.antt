@@ -9,7 +9,7 @@ use lib.ListN.{length, drop, length-drop}
 use lib.Dec.{ltb, leb, eqb}
 use borrow.Author.Tests.{ltb-false, leb-false, eqb-true, eqb-false, not-false}
 use Rattle.limits.specs.Limits.{minNodes, minTerminals, maxNodes, maxTerminals, maxArcs, minWeight, maxWeight}
-use Rattle.lists.specs.ByTest.{by-test}
+use Rattle.lists.specs.Tests.{by-test}
 use Rattle.limits.specs.Marks.{markHD, markLK, markBK, markST, markED}
 use Rattle.answer.specs.declared.SheetFault.{SheetFault}
 use Rattle.subset.specs.Sets.{full}

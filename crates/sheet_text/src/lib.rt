@@ -4,7 +4,7 @@ use answer::Refusal;
 use answer::code_of;
 use libc::STDOUT_FILENO;
 use loader::Loaded;
-use loader::terminals_in;
+use subset::terminals_in;
 
 // Writes a text to standard output.
 pub fn print(text: &[u8]) {

@@ -1,0 +1,8 @@
+-- what a reader must believe
+pub mod Network
+-- the graph that loaded tables hold
+pub mod Loaded
+-- what the graph of a good sheet has
+pub mod OfSheets
+-- the worked sheets
+pub mod Worked
