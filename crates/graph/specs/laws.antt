@@ -16,6 +16,7 @@ pub mod Finite
 pub mod LeastMeaning
 pub mod Roots
 -- closed tables: the lower bound
+pub mod ClosedTables
 pub mod Charged
 pub mod LowerBound
 -- supported tables: the upper bound

@@ -10,12 +10,13 @@ use native.Mathlib.Omega.{arith}
 use native.Mathlib.Decide.{ℕ-discrete}
 use lib.ListN.{length, getD, set, replicate, length-map, length-set, length-replicate, getD-replicate}
 use lib.Seq.{ext-getD, getD-set-same, getD-set-other}
-use lib.Dec.{eqb}
+use lib.Dec.{T, eqb}
 use borrow.Author.Tests.{ne-eqb, eqb-true, eqb-false}
 use Rattle.lists.specs.Tests.{by-test}
 use Rattle.lists.specs.Every.{Every, every-imp}
 use Rattle.lists.specs.Sorted.{Sorted}
 use Rattle.lists.specs.Count.{bit, count}
+use Rattle.lists.specs.Listed.{listed, every-listed, count-listed}
 
 -- n numbers, rising from a
 abbrev pub numbers : ℕ → ℕ → List ℕ
@@ -51,6 +52,13 @@ count-number w a (suc n) l h =
     by-test (eqb w a) (λ b. bit b + count w (numbers (suc a) n) ≡ 1)
     (λ e. let s = eqb-true w a e in omega (arith, count-number-none w (suc a) n (omega arith)))
     (λ e. let d = eqb-false w a e in omega (arith, count-number w (suc a) n (omega arith) (omega arith)))
+
+-- the numbers below n are listed, and no others
+pub number-listed : (n x : ℕ) → x < n → T (listed x (numbers 0 n))
+number-listed n x l = count-listed x (numbers 0 n) (omega (arith, count-number x 0 n (omega arith) (omega arith)))
+
+pub listed-number : (n x : ℕ) → T (listed x (numbers 0 n)) → x < n
+listed-number n x t = let (_, l) = every-listed (λ y. (0 ≤ y) × (y < 0 + n)) (numbers 0 n) (every-number 0 n) x t in omega arith
 
 -- ---- a function's values at 0, 1, .., n - 1
 

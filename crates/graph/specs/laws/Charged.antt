@@ -11,10 +11,11 @@ use native.Mathlib.Nat.{le-of-eq, lt-irrefl}
 use lib.Bits.{bitAnd}
 use lib.Dec.{T, eqb, ltb, ltb→lt, lt→ltb, leb·suc-zero}
 use Rattle.lists.specs.Tests.{by-fact, by-eq, ne-fact, fact-true, and-right, and-not, ltb-suc}
-use Rattle.subset.specs.Sets.{has, single}
+use Rattle.subset.specs.Sets.{single}
 use Rattle.subset.specs.SetOf.{setOf, setOf-lt, setOf-same, setOf-none, setOf-single, setOf-union, setOf-apart}
-use Rattle.graph.specs.Graph.{Graph}
+use Rattle.graph.specs.Graph.{Graph, Landing}
 use Rattle.graph.specs.Tables.{Closed}
+use Rattle.graph.specs.laws.ClosedTables.{closed-landing, closed-arc, closed-split}
 
 -- the cell of v and w; the empty set, too, costs the charge of v
 abbrev pub charged : Graph → (ℕ → ℕ → ℕ) → ℕ → ℕ → ℕ
@@ -37,7 +38,7 @@ module _ (G : Graph) (c : ℕ → ℕ → ℕ) (C : Closed G c) where
   charged-arc e w l b =
       let u : ℕ = G .start e in
       let v : ℕ = G .end e in
-      by-eq w 0 (λ t. cond t (G .charge u) (c u w) ≤ G .weight e + G .charge u + cond t (G .charge v) (c v w)) (λ _. omega arith) (λ n. C .arc e w l n b)
+      by-eq w 0 (λ t. cond t (G .charge u) (c u w) ≤ G .weight e + G .charge u + cond t (G .charge v) (c v w)) (λ _. omega arith) (λ n. closed-arc C e w l n b)
 
   -- a split gives no less than the cell; either part may be empty
   charged-split : (v y z : ℕ) → v < G .nodes → bitAnd y z ≡ 0 → y + z < 2 ^ G .terminals
@@ -47,7 +48,7 @@ module _ (G : Graph) (c : ℕ → ℕ → ℕ) (C : Closed G c) where
       go : Dec (y ≡ 0) → Dec (z ≡ 0) → charged G c v (y + z) + G .charge v ≤ charged G c v y + charged G c v z
       go (yes p) q = omega (arith, ap (charged G c v) (let e : y + z ≡ z = omega arith in e), charged-none v y p)
       go (no p) (yes q) = omega (arith, ap (charged G c v) (let e : y + z ≡ y = omega arith in e), charged-none v z q)
-      go (no p) (no q) = omega (arith, charged-cell v (y + z) (omega arith), charged-cell v y p, charged-cell v z q, C .split v y z l p q d b)
+      go (no p) (no q) = omega (arith, charged-cell v (y + z) (omega arith), charged-cell v y p, charged-cell v z q, closed-split C v y z l p q d b)
 
   -- the same of the sets of the terminals that pass two tests, of which no terminal passes both
   pub charged-union : (v : ℕ) (f g : ℕ → Bool) → v < G .nodes → ((i : ℕ) → i < G .terminals → T (f i) → T (not (g i)))
@@ -58,13 +59,13 @@ module _ (G : Graph) (c : ℕ → ℕ → ℕ) (C : Closed G c) where
       (subst (λ (x : ℕ). x < 2 ^ G .terminals) sum (setOf-lt (G .terminals) (λ i. f i || g i))))
 
   -- a landing gives no less than the cell
-  charged-landing : (v i : ℕ) → v < G .nodes → i < G .terminals → T (has (G .landings v) i) → charged G c v (single i) ≤ G .charge v
-  charged-landing v i l h t = by-eq (single i) 0 (λ b. cond b (G .charge v) (c v (single i)) ≤ G .charge v) (λ _. omega arith) (λ _. C .landing v i l h t)
+  charged-landing : (v i : ℕ) → v < G .nodes → i < G .terminals → Landing G i v → charged G c v (single i) ≤ G .charge v
+  charged-landing v i l h t = by-eq (single i) 0 (λ b. cond b (G .charge v) (c v (single i)) ≤ G .charge v) (λ _. omega arith) (λ _. closed-landing C v i l h t)
 
 -- ---- terminals that have a landing at v: those that pass f
 
 module _ (G : Graph) (c : ℕ → ℕ → ℕ) (C : Closed G c) (v : ℕ) (on : v < G .nodes) (f : ℕ → Bool)
-    (lands : (i : ℕ) → i < G .terminals → T (f i) → T (has (G .landings v) i)) where
+    (lands : (i : ℕ) → i < G .terminals → T (f i) → Landing G i v) where
   -- terminal j, where it passes f, costs no more than the charge of v
   landed-one : (j : ℕ) → j < G .terminals → charged G c v (passing G (λ i. f i && eqb i j)) ≤ G .charge v
   landed-one j l =

@@ -1,6 +1,7 @@
--- Of the tables without a cell above `top`, the cost table is the one that is closed and supported. That a closed and supported table has the least totals is the lower and the upper
--- bound together. That the cost table is supported: were some finite cell below all that a landing, an arc or a split gives, the table
--- with that cell raised by 1 would be closed too, and by the lower bound no subtree would have the least total.
+-- Of the tables without a cell above `top`, the cost table is the one that is closed and supported. That a closed and supported table has
+-- the least totals is the lower and the upper bound together. That the cost table is supported: were some finite cell below all that a
+-- landing, an arc or a split gives, the table with that cell raised by 1 would be closed too, and by the lower bound no subtree would have
+-- the least total.
 -- Assumes nothing.
 use Prim.Native.Nat.{ℕ, suc, _+_, _-_, _^_, _≤_, _<_}
 use mathlib.Core.Path.{_≡_, refl, sym, ap, ap₂}
@@ -20,6 +21,7 @@ use Rattle.graph.specs.LeastTotals.{Least, NoSubtree, IsCostTable, Room}
 use Rattle.graph.specs.Growth.{kept}
 use Rattle.graph.specs.Tables.{Closed, Supported, Capped, put}
 use Rattle.graph.specs.laws.SubtreeParts.{arc-of, start-reached, total-by-arc}
+use Rattle.graph.specs.laws.ClosedTables.{closed-landing, closed-arc, closed-split, make-closed}
 use Rattle.graph.specs.laws.LowerBound.{subtree-lower}
 use Rattle.graph.specs.laws.UpperBound.{Connected, connected-landing, connected-arc, connected-split, connected-subtree, attain}
 use Rattle.graph.specs.laws.LeastMeaning.{Right, table-right, table-empty, right-table, room-charge}
@@ -86,33 +88,32 @@ module _ (G : Graph) (sound : Sound G) (c : ℕ → ℕ → ℕ) (top : ℕ) (ro
       (λ e. omega (arith, ap (c v) e, table-empty G top c table v on)) (λ ne. cell-top v w on ne small)
 
   pub cost-table-closed : Closed G c
-  cost-table-closed = record {
-    nothing = table-empty G top c table;
-    landing = λ v i on li t. cell-le v (single i) (G .charge v) [] on (single-ne i) (pow-lt li) (connected-landing G v i (G .charge v) li t (omega arith));
-    arc = λ e w le ne small.
-        let u : ℕ = G .start e in
-        let v : ℕ = G .end e in
-        let given : ℕ = G .weight e + G .charge u + c v w in
-        by-fact (ltb (c v w) top) (λ _. c u w ≤ given)
-        (λ t.
-        let (L, connected) = cell-connected v w (sound .end-lt e le) ne small (ltb→lt (c v w) top t) in
-        cell-le u w given (e ∷ L) (sound .start-lt e le) ne small (connected-arc G e w (c v w) given L le connected (omega arith)))
-        (λ t. omega (arith, cell-top u w (sound .start-lt e le) ne small, nltb→le (c v w) top t));
-    split = λ v y z on ny nz d small.
-        let given : ℕ = c v y + c v z - G .charge v in
-        let floor-y = charge-le-least v y on ny (omega arith) in
-        let floor-z = charge-le-least v z on nz (omega arith) in
-        let capped = cell-top v (y + z) on (omega arith) small in
-        by-fact (ltb (c v y) top) (λ _. c v (y + z) + G .charge v ≤ c v y + c v z)
-        (λ t. by-fact (ltb (c v z) top) (λ _. c v (y + z) + G .charge v ≤ c v y + c v z)
-        (λ s.
-        let (A, for-y) = cell-connected v y on ny (omega arith) (ltb→lt (c v y) top t) in
-        let (B, for-z) = cell-connected v z on nz (omega arith) (ltb→lt (c v z) top s) in
-        let both = connected-split G v y z (c v y) (c v z) given A B d for-y for-z (omega arith) in
-        omega (arith, cell-le v (y + z) given (A ++ B) on (omega arith) small both))
-        (λ s. omega (arith, nltb→le (c v z) top s)))
-        (λ t. omega (arith, nltb→le (c v y) top t));
-  }
+  cost-table-closed = make-closed
+      (table-empty G top c table)
+      (λ v i on li t. cell-le v (single i) (G .charge v) [] on (single-ne i) (pow-lt li) (connected-landing G v i (G .charge v) li t (omega arith)))
+      (λ e w le ne small.
+      let u : ℕ = G .start e in
+      let v : ℕ = G .end e in
+      let given : ℕ = G .weight e + G .charge u + c v w in
+      by-fact (ltb (c v w) top) (λ _. c u w ≤ given)
+      (λ t.
+      let (L, connected) = cell-connected v w (sound .end-lt e le) ne small (ltb→lt (c v w) top t) in
+      cell-le u w given (e ∷ L) (sound .start-lt e le) ne small (connected-arc G e w (c v w) given L le connected (omega arith)))
+      (λ t. omega (arith, cell-top u w (sound .start-lt e le) ne small, nltb→le (c v w) top t)))
+      (λ v y z on ny nz d small.
+      let given : ℕ = c v y + c v z - G .charge v in
+      let floor-y = charge-le-least v y on ny (omega arith) in
+      let floor-z = charge-le-least v z on nz (omega arith) in
+      let capped = cell-top v (y + z) on (omega arith) small in
+      by-fact (ltb (c v y) top) (λ _. c v (y + z) + G .charge v ≤ c v y + c v z)
+      (λ t. by-fact (ltb (c v z) top) (λ _. c v (y + z) + G .charge v ≤ c v y + c v z)
+      (λ s.
+      let (A, for-y) = cell-connected v y on ny (omega arith) (ltb→lt (c v y) top t) in
+      let (B, for-z) = cell-connected v z on nz (omega arith) (ltb→lt (c v z) top s) in
+      let both = connected-split G v y z (c v y) (c v z) given A B d for-y for-z (omega arith) in
+      omega (arith, cell-le v (y + z) given (A ++ B) on (omega arith) small both))
+      (λ s. omega (arith, nltb→le (c v z) top s)))
+      (λ t. omega (arith, nltb→le (c v y) top t)))
 
 -- ---- a closed table with a cell below its offer raised by 1 is closed
 
@@ -128,34 +129,33 @@ module _ (G : Graph) (c : ℕ → ℕ → ℕ) (top v w : ℕ) (C : Closed G c)
   raised-ge u y = by-put c v w (suc (c v w)) u y (λ x. c u y ≤ x) (λ p q. omega (arith, ap₂ c p q)) (omega arith)
 
   raise-closed : Closed G raised
-  raise-closed = record {
-    nothing = λ u on. by-put c v w (suc (c v w)) u 0 (λ x. x ≡ 0) (λ p q. absurd (ne (sym q))) (C .nothing u on);
-    landing = λ u i on li t. by-put c v w (suc (c v w)) u (single i) (λ x. x ≤ G .charge u)
-        (λ p q. omega (arith, ap₂ (offer G c top) p q, offer-landing G c top u i li t)) (C .landing u i on li t);
-    arc = λ e y le ny small.
-        let a : ℕ = G .start e in
-        let b : ℕ = G .end e in
-        by-put c v w (suc (c v w)) a y (λ x. x ≤ G .weight e + G .charge a + raised b y)
-        (λ p q. by-fact (ltb (c b y) top) (λ _. suc (c v w) ≤ G .weight e + G .charge a + raised b y)
-        (λ t. omega (arith, ap₂ (offer G c top) p q, offer-arc G c top e y le (ltb→lt (c b y) top t), raised-ge b y))
-        (λ t. omega (arith, offer-top G c top v w, nltb→le (c b y) top t, raised-ge b y)))
-        (omega (arith, C .arc e y le ny small, raised-ge b y));
-    split = λ u y z on ny nz d small.
-        let floor-y = charge-le-cell u y on ny (omega arith) in
-        let floor-z = charge-le-cell u z on nz (omega arith) in
-        let ge-y = raised-ge u y in
-        let ge-z = raised-ge u z in
-        by-put c v w (suc (c v w)) u (y + z) (λ x. x + G .charge u ≤ raised u y + raised u z)
-        (λ p q.
-        let here = ap₂ (offer G c top) p q in
-        let capped = offer-top G c top v w in
-        by-fact (ltb (c u y) top) (λ _. suc (c v w) + G .charge u ≤ raised u y + raised u z)
-        (λ t. by-fact (ltb (c u z) top) (λ _. suc (c v w) + G .charge u ≤ raised u y + raised u z)
-        (λ s. omega (arith, offer-split G c top u y z ny nz d (ltb→lt (c u y) top t) (ltb→lt (c u z) top s)))
-        (λ s. omega (arith, nltb→le (c u z) top s)))
-        (λ t. omega (arith, nltb→le (c u y) top t)))
-        (omega (arith, C .split u y z on ny nz d small));
-  }
+  raise-closed = make-closed
+      (λ u on. by-put c v w (suc (c v w)) u 0 (λ x. x ≡ 0) (λ p q. absurd (ne (sym q))) (C .nothing u on))
+      (λ u i on li t. by-put c v w (suc (c v w)) u (single i) (λ x. x ≤ G .charge u)
+      (λ p q. omega (arith, ap₂ (offer G c top) p q, offer-landing G c top u i li t)) (closed-landing C u i on li t))
+      (λ e y le ny small.
+      let a : ℕ = G .start e in
+      let b : ℕ = G .end e in
+      by-put c v w (suc (c v w)) a y (λ x. x ≤ G .weight e + G .charge a + raised b y)
+      (λ p q. by-fact (ltb (c b y) top) (λ _. suc (c v w) ≤ G .weight e + G .charge a + raised b y)
+      (λ t. omega (arith, ap₂ (offer G c top) p q, offer-arc G c top e y le (ltb→lt (c b y) top t), raised-ge b y))
+      (λ t. omega (arith, offer-top G c top v w, nltb→le (c b y) top t, raised-ge b y)))
+      (omega (arith, closed-arc C e y le ny small, raised-ge b y)))
+      (λ u y z on ny nz d small.
+      let floor-y = charge-le-cell u y on ny (omega arith) in
+      let floor-z = charge-le-cell u z on nz (omega arith) in
+      let ge-y = raised-ge u y in
+      let ge-z = raised-ge u z in
+      by-put c v w (suc (c v w)) u (y + z) (λ x. x + G .charge u ≤ raised u y + raised u z)
+      (λ p q.
+      let here = ap₂ (offer G c top) p q in
+      let capped = offer-top G c top v w in
+      by-fact (ltb (c u y) top) (λ _. suc (c v w) + G .charge u ≤ raised u y + raised u z)
+      (λ t. by-fact (ltb (c u z) top) (λ _. suc (c v w) + G .charge u ≤ raised u y + raised u z)
+      (λ s. omega (arith, offer-split G c top u y z ny nz d (ltb→lt (c u y) top t) (ltb→lt (c u z) top s)))
+      (λ s. omega (arith, nltb→le (c u z) top s)))
+      (λ t. omega (arith, nltb→le (c u y) top t)))
+      (omega (arith, closed-split C u y z on ny nz d small)))
 
 -- ---- the cost table is supported
 

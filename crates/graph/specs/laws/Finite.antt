@@ -1,15 +1,13 @@
 -- Which nodes are the root of a directed subtree that holds a landing of each terminal of a set, and so have a finite cell: exactly those
 -- from which directed paths lead to a landing of each.
 -- Assumes nothing.
-use Prim.Native.Nat.{ℕ, _+_, _≤_, _<_}
+use Prim.Native.Nat.{ℕ, _≤_, _<_}
 use mathlib.Core.Path.{_≡_, refl, sym, subst}
 use mathlib.Core.Logic.{_≢_, ⊎-elim, _↔_}
 use mathlib.Core.List.{List}
 use native.Mathlib.Omega.{arith}
-use lib.Dec.{T}
 use lib.Pow.{ones-lt}
-use Rattle.lists.specs.Listed.{listed, every-listed, count-listed}
-use Rattle.lists.specs.Numbers.{every-number, count-number}
+use Rattle.lists.specs.Numbers.{number-listed, listed-number}
 use Rattle.subset.specs.Sets.{full}
 use Rattle.subset.specs.Parts.{full-every, full-ne}
 use Rattle.graph.specs.Graph.{Graph, allArcs}
@@ -24,24 +22,17 @@ use Rattle.graph.specs.laws.Growing.{kept-subtree, reached-kept}
 use Rattle.graph.specs.laws.LeastMeaning.{Right, cell-total, total-right, table-right}
 
 module _ (G : Graph) where
-  -- the list of all arcs has exactly the arcs of the graph
-  all-listed : (e : ℕ) → e < G .arcs → T (listed e (allArcs G))
-  all-listed e l = count-listed e (allArcs G) (omega (arith, count-number e 0 (G .arcs) (omega arith) (omega arith)))
-
-  listed-arc : (e : ℕ) → T (listed e (allArcs G)) → e < G .arcs
-  listed-arc e t = let (_, l) = every-listed (λ x. (0 ≤ x) × (x < 0 + G .arcs)) (allArcs G) (every-number 0 (G .arcs)) e t in omega arith
-
   -- what growth keeps of all arcs is such a subtree
   pub reaches-subtree : (v w : ℕ) → v < G .nodes → Reaches G v w → (L : List ℕ) × Subtree G v L × Covers G v L w
   reaches-subtree v w on h =
       let A : List ℕ = allArcs G in
-      (kept G v A, kept-subtree G v A on listed-arc, λ i l t. let (u, path, landing) = h i l t in (u, reached-kept G v A path, landing))
+      (kept G v A, kept-subtree G v A on (listed-number (G .arcs)), λ i l t. let (u, path, landing) = h i l t in (u, reached-kept G v A path, landing))
 
   -- and the arcs of such a subtree lead to the landings
   pub subtree-reaches : (v w : ℕ) (L : List ℕ) → Subtree G v L → Covers G v L w → Reaches G v w
   subtree-reaches v w L t cov i l b =
       let (u, at, landing) = cov i l b in
-      (u, path-more G L (allArcs G) (λ e j. all-listed e (arc-of t e j)) (held-reached G v L (start-reached t) u at), landing)
+      (u, path-more G L (allArcs G) (λ e j. number-listed (G .arcs) e (arc-of t e j)) (held-reached G v L (start-reached t) u at), landing)
 
   -- a cell of a set that is not empty is finite exactly where such paths lead from its node
   pub cell-finite : (top : ℕ) → Room G top → (v w : ℕ) → v < G .nodes → w ≢ 0 → (leastCell G top v w < top) ↔ Reaches G v w

@@ -12,8 +12,8 @@ use lib.Dec.{T, eqb, eqb→eq, ltb, ltb→lt, lt→ltb}
 use Rattle.lists.specs.Tests.{fact-true, not-fact-false, eq-fact, ne-fact, fact-ne, and-left, and-right, and-both, or-cases, or-left, or-right}
 use Rattle.lists.specs.Find.{anyTo, any-at, any-of, first, first-says}
 use Rattle.subset.specs.Sets.{single, has, Part, isPart}
-use Rattle.graph.specs.Graph.{Graph, Sound}
-use Rattle.graph.specs.Layout.{isLanding, isDone, fits, splits, step, followIn, layoutIn, layout}
+use Rattle.graph.specs.Graph.{Graph, Sound, Landing}
+use Rattle.graph.specs.Layout.{landsAlone, isDone, fits, splits, step, followIn, layoutIn, layout}
 
 -- ---- what the tests say
 
@@ -51,20 +51,20 @@ facts-split G c v w y (filled, (part, makes)) =
     and-both (not (eqb y 0)) (isPart y w && sums) (ne-fact filled) (and-both (isPart y w) sums (eq-fact part) (eq-fact makes))
 
 -- nothing is added exactly where w is empty, or some terminal is all of w and has a landing at v
-pub done-facts : (G : Graph) (v w : ℕ) → T (isDone G v w) → (w ≡ 0) ⊎ ((i : ℕ) × (i < G .terminals) × (w ≡ single i) × T (has (G .landings v) i))
-done-facts G v w t = go (or-cases (eqb w 0) (anyTo (isLanding G v w) (G .terminals)) t)
+pub done-facts : (G : Graph) (v w : ℕ) → T (isDone G v w) → (w ≡ 0) ⊎ ((i : ℕ) × (i < G .terminals) × (w ≡ single i) × Landing G i v)
+done-facts G v w t = go (or-cases (eqb w 0) (anyTo (landsAlone G v w) (G .terminals)) t)
   where
-    go : T (eqb w 0) ⊎ T (anyTo (isLanding G v w) (G .terminals)) → (w ≡ 0) ⊎ ((i : ℕ) × (i < G .terminals) × (w ≡ single i) × T (has (G .landings v) i))
+    go : T (eqb w 0) ⊎ T (anyTo (landsAlone G v w) (G .terminals)) → (w ≡ 0) ⊎ ((i : ℕ) × (i < G .terminals) × (w ≡ single i) × Landing G i v)
     go (inl s) = inl (eqb→eq w 0 s)
     go (inr s) =
-        let (i, l, u) = any-at (isLanding G v w) (G .terminals) s in
+        let (i, l, u) = any-at (landsAlone G v w) (G .terminals) s in
         inr (i, l, eqb→eq w (single i) (and-left (eqb w (single i)) (has (G .landings v) i) u), and-right (eqb w (single i)) (has (G .landings v) i) u)
 
-pub facts-done : (G : Graph) (v w : ℕ) → (w ≡ 0) ⊎ ((i : ℕ) × (i < G .terminals) × (w ≡ single i) × T (has (G .landings v) i)) → T (isDone G v w)
-facts-done G v w (inl q) = or-left (eqb w 0) (anyTo (isLanding G v w) (G .terminals)) (eq-fact q)
+pub facts-done : (G : Graph) (v w : ℕ) → (w ≡ 0) ⊎ ((i : ℕ) × (i < G .terminals) × (w ≡ single i) × Landing G i v) → T (isDone G v w)
+facts-done G v w (inl q) = or-left (eqb w 0) (anyTo (landsAlone G v w) (G .terminals)) (eq-fact q)
 facts-done G v w (inr (i, l, q, t)) =
-    or-right (eqb w 0) (anyTo (isLanding G v w) (G .terminals))
-    (any-of (isLanding G v w) (G .terminals) i l (and-both (eqb w (single i)) (has (G .landings v) i) (eq-fact q) t))
+    or-right (eqb w 0) (anyTo (landsAlone G v w) (G .terminals))
+    (any-of (landsAlone G v w) (G .terminals) i l (and-both (eqb w (single i)) (has (G .landings v) i) (eq-fact q) t))
 
 -- ---- one step
 

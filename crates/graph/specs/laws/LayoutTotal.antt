@@ -14,14 +14,15 @@ use lib.Count.{ones}
 use lib.Dec.{T}
 use Rattle.lists.specs.Tests.{true-fact, false-not-fact, not-both}
 use Rattle.lists.specs.Find.{first, first-says}
-use Rattle.subset.specs.Sets.{single, has, Part}
+use Rattle.subset.specs.Sets.{single, Part}
 use Rattle.subset.specs.Parts.{part-sum, rest-disjoint, part-and-rest}
 use Rattle.subset.specs.Sizes.{proper-part-size, rest-size}
-use Rattle.graph.specs.Graph.{Graph, Sound}
+use Rattle.graph.specs.Graph.{Graph, Sound, Landing}
 use Rattle.graph.specs.Subtrees.{Subtree, Covers, total}
 use Rattle.graph.specs.Growth.{kept}
 use Rattle.graph.specs.Tables.{Closed, Support, by-landing, by-arc, by-split, Supported}
 use Rattle.graph.specs.Layout.{isDone, fits, splits, layout}
+use Rattle.graph.specs.laws.ClosedTables.{closed-arc, closed-split}
 use Rattle.graph.specs.laws.Growing.{kept-all, whole-subtree}
 use Rattle.graph.specs.laws.LowerBound.{subtree-lower}
 use Rattle.graph.specs.laws.UpperBound.{charge-le-cell, Connected, connected-landing, connected-arc, connected-split, connected-subtree}
@@ -37,7 +38,7 @@ module _ (G : Graph) (sound : Sound G) (c : ℕ → ℕ → ℕ) (top : ℕ) (C 
       → G .weight e + G .charge v + c (G .end e) w ≤ c v w → T (fits G c top v w e)
   fits-passes v w e l q ne small finite h =
       let back : c v w ≤ G .weight e + G .charge v + c (G .end e) w =
-      subst (λ (u : ℕ). c u w ≤ G .weight e + G .charge u + c (G .end e) w) q (C .arc e w l ne small) in
+      subst (λ (u : ℕ). c u w ≤ G .weight e + G .charge u + c (G .end e) w) q (closed-arc C e w l ne small) in
       facts-fit G c top v w e (q, (finite, le-antisymm h back))
 
   -- a part that, with the rest, gives no more than the cell splits the set
@@ -45,7 +46,7 @@ module _ (G : Graph) (sound : Sound G) (c : ℕ → ℕ → ℕ) (top : ℕ) (C 
       → c v y + c v z ≤ c v w + G .charge v → T (splits G c v w y)
   splits-passes v w y z on ny nz d q small h =
       let rest : w - y ≡ z = omega arith in
-      let back = C .split v y z on ny nz d (omega arith) in
+      let back = closed-split C v y z on ny nz d (omega arith) in
       facts-split G c v w y (ny, (subst (Part y) q (part-sum y z d), omega (arith, ap (c v) rest, ap (c v) q)))
 
   -- at a finite cell of a set that is not empty, where the layout is not done, an arc fits or a part splits the set
@@ -106,7 +107,7 @@ module _ (G : Graph) (sound : Sound G) (c : ℕ → ℕ → ℕ) (top : ℕ) (C 
           → Connected G v w (c v w) (layout G c top v w)
       go true t o q p r below = landed (done-facts G v w (true-fact t))
         where
-          landed : (w ≡ 0) ⊎ ((i : ℕ) × (i < G .terminals) × (w ≡ single i) × T (has (G .landings v) i)) → Connected G v w (c v w) (layout G c top v w)
+          landed : (w ≡ 0) ⊎ ((i : ℕ) × (i < G .terminals) × (w ≡ single i) × Landing G i v) → Connected G v w (c v w) (layout G c top v w)
           landed (inl z) = absurd (ne z)
           landed (inr (i, li, e, h)) =
               subst (Connected G v w (c v w)) (sym (layout-nothing G sound c top v w (true-fact t)))

@@ -16,7 +16,7 @@ use Rattle.lists.specs.Listed.{listed, listed-head, listed-tail, listed-cases, 
 use Rattle.lists.specs.Sums.{sumBy, sum-le, sum-raise, Same, same-listed}
 use Rattle.subset.specs.Sets.{has}
 use Rattle.subset.specs.SetOf.{setOf-lt, setOf-same, setOf-has}
-use Rattle.graph.specs.Graph.{Graph, Sound}
+use Rattle.graph.specs.Graph.{Graph, Sound, Landing}
 use Rattle.graph.specs.Subtrees.{Subtree, held, Covers, total}
 use Rattle.graph.specs.Growth.{kept}
 use Rattle.graph.specs.Tables.{Closed}
@@ -122,11 +122,11 @@ module _ (G : Graph) (sound : Sound G) (c : ℕ → ℕ → ℕ) (C : Closed G c
 
 -- a held landing for each terminal of w; any node for the others
 held-landing : (G : Graph) (r : ℕ) (L : List ℕ) (w : ℕ) → Covers G r L w
-    → (i : ℕ) → (v : ℕ) × (i < G .terminals → T (has w i) → T (listed v (held G r L)) × T (has (G .landings v) i))
+    → (i : ℕ) → (v : ℕ) × (i < G .terminals → T (has w i) → T (listed v (held G r L)) × Landing G i v)
 held-landing G r L w cov i = go (decLt i (G .terminals)) (has w i) refl
   where
     go : Dec (i < G .terminals) → (b : Bool) → has w i ≡ b
-        → (v : ℕ) × (i < G .terminals → T (has w i) → T (listed v (held G r L)) × T (has (G .landings v) i))
+        → (v : ℕ) × (i < G .terminals → T (has w i) → T (listed v (held G r L)) × Landing G i v)
     go (yes l) true e = let k = cov i l (true-fact e) in (k .0, λ _ _. (k .1, k .2))
     go (yes l) false e = (0, λ _ t. absurd (subst T e t))
     go (no n) b e = (0, λ l _. absurd (n l))
@@ -139,10 +139,10 @@ module _ (G : Graph) (sound : Sound G) (c : ℕ → ℕ → ℕ) (C : Closed G c
       let s : ℕ → ℕ = λ i. (held-landing G r L w cov i) .0 in
       let last : ℕ → ℕ = λ i. merged G L (s i) in
       let held-at : (i : ℕ) → i < G .terminals → T (has w i) → T (listed (s i) (held G r L)) = λ i li t. ((held-landing G r L w cov i) .1 li t) .0 in
-      let landing-at : (i : ℕ) → i < G .terminals → T (has w i) → T (has (G .landings (s i)) i) = λ i li t. ((held-landing G r L w cov i) .1 li t) .1 in
+      let landing-at : (i : ℕ) → i < G .terminals → T (has w i) → Landing G i (s i) = λ i li t. ((held-landing G r L w cov i) .1 li t) .1 in
       let base : (h : ℕ) → h < G .nodes → charged G c h (assigned G w s h) ≤ G .charge h =
       λ h l. landed-all G c C h l (λ i. has w i && eqb (s i) h)
-      (λ i li t. subst (λ (x : ℕ). T (has (G .landings x) i)) (eqb→eq (s i) h (and-right (has w i) (eqb (s i) h) t))
+      (λ i li t. subst (λ (x : ℕ). Landing G i x) (eqb→eq (s i) h (and-right (has w i) (eqb (s i) h) t))
       (landing-at i li (and-left (has w i) (eqb (s i) h) t))) in
       let sum = contract-all G sound c C w L (r ∷ []) s g (tt, tt) (λ h t. subst (λ (x : ℕ). x < G .nodes) (sym (listed-only h r t)) on) arcs base in
       let at-root : (i : ℕ) → i < G .terminals → T (has w i) → T (eqb (last i) r) =

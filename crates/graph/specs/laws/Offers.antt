@@ -12,8 +12,8 @@ use Rattle.lists.specs.Tests.{by-fact, eq-fact, ne-fact, fact-ne, and-left, and
 use Rattle.lists.specs.Least.{leastTo, leastTo-top, leastTo-le, leastTo-at}
 use Rattle.subset.specs.Sets.{has, single, Part, isPart}
 use Rattle.subset.specs.Parts.{part-le, part-sum, rest-disjoint}
-use Rattle.graph.specs.Graph.{Graph}
-use Rattle.graph.specs.Layout.{isLanding}
+use Rattle.graph.specs.Graph.{Graph, Landing}
+use Rattle.graph.specs.Layout.{landsAlone}
 use Rattle.graph.specs.Tables.{Support, by-landing, by-arc, by-split}
 
 -- ---- what a landing, an arc and a split give; `top` where they give nothing
@@ -31,7 +31,7 @@ abbrev canSplit : (ℕ → ℕ → ℕ) → ℕ → ℕ → ℕ → ℕ → Bool
 canSplit c top v w y = not (eqb y 0) && (isPart y w && finiteParts c top v w y)
 
 abbrev viaLanding : Graph → ℕ → ℕ → ℕ → ℕ → ℕ
-viaLanding G top v w i = cond (isLanding G v w i) (G .charge v) top
+viaLanding G top v w i = cond (landsAlone G v w i) (G .charge v) top
 
 abbrev viaArc : Graph → (ℕ → ℕ → ℕ) → ℕ → ℕ → ℕ → ℕ → ℕ
 viaArc G c top v w e = cond (canFollow G c top v w e) (G .weight e + G .charge v + c (G .end e) w) top
@@ -98,13 +98,13 @@ module _ (G : Graph) (c : ℕ → ℕ → ℕ) (top : ℕ) where
       (λ b. split-support v w x (omega (arith, nleb→lt landings x a, nleb→lt arcs x b)) l))
 
   -- the offer is no more than what each gives
-  pub offer-landing : (v i : ℕ) → i < G .terminals → T (has (G .landings v) i) → offer G c top v (single i) ≤ G .charge v
+  pub offer-landing : (v i : ℕ) → i < G .terminals → Landing G i v → offer G c top v (single i) ≤ G .charge v
   offer-landing v i l t =
-      let passes : T (isLanding G v (single i) i) = and-both (eqb (single i) (single i)) (has (G .landings v) i) (eqb-refl (single i)) t in
+      let passes : T (landsAlone G v (single i) i) = and-both (eqb (single i) (single i)) (has (G .landings v) i) (eqb-refl (single i)) t in
       omega (
         arith,
         leastTo-le (viaLanding G top v (single i)) top (G .terminals) i l,
-        choice-first (isLanding G v (single i) i) (G .charge v) top passes,
+        choice-first (landsAlone G v (single i) i) (G .charge v) top passes,
       )
 
   pub offer-arc : (e w : ℕ) → e < G .arcs → c (G .end e) w < top → offer G c top (G .start e) w ≤ G .weight e + G .charge (G .start e) + c (G .end e) w

@@ -12,8 +12,8 @@ use lib.Dec.{T}
 use Rattle.lists.specs.Tests.{same-tests}
 use Rattle.lists.specs.Select.{select}
 use Rattle.lists.specs.Listed.{listed, listed-head, listed-tail, listed-cases, listed-only, listed-left, listed-right, listed-append}
-use Rattle.lists.specs.Listed.{listed-value, value-of, every-listed, count-listed, listed-select, select-listed}
-use Rattle.lists.specs.Numbers.{numbers, every-number, count-number}
+use Rattle.lists.specs.Listed.{listed-value, value-of, listed-select, select-listed}
+use Rattle.lists.specs.Numbers.{numbers, number-listed, listed-number}
 use Rattle.lists.specs.Sums.{length-sum}
 use Rattle.graph.specs.Graph.{Graph}
 use Rattle.graph.specs.Paths.{DirectedPath, reachedIn, isReached, reachedNodes}
@@ -93,11 +93,7 @@ module _ (G : Graph) (L : List ℕ) (u : ℕ) where
   pub reached-node : (v : ℕ) → T (listed v (reachedNodes G L u)) → (v < G .nodes) × DirectedPath G L u v
   reached-node v t =
       let (i, reached) = select-listed v (isReached G L u) (numbers 0 (G .nodes)) t in
-      let (_, l) = every-listed (λ x. (0 ≤ x) × (x < 0 + G .nodes)) (numbers 0 (G .nodes)) (every-number 0 (G .nodes)) v i in
-      (omega arith, reached-path (length L) v reached)
+      (listed-number (G .nodes) v i, reached-path (length L) v reached)
 
   pub node-reached : (v : ℕ) → v < G .nodes → DirectedPath G L u v → T (listed v (reachedNodes G L u))
-  node-reached v l p =
-      let i : T (listed v (numbers 0 (G .nodes))) =
-      count-listed v (numbers 0 (G .nodes)) (omega (arith, count-number v 0 (G .nodes) (omega arith) (omega arith))) in
-      listed-select v (isReached G L u) (numbers 0 (G .nodes)) i (path-reached v p)
+  node-reached v l p = listed-select v (isReached G L u) (numbers 0 (G .nodes)) (number-listed (G .nodes) v l) (path-reached v p)

@@ -1,19 +1,18 @@
 -- A table filled set by set: when no landing and no split gives less than a cell of the set, before the arcs are tried; when the set is
--- closed; that it stays so where the cells of the set and of its parts stay; and that the table is closed where each set is.
+-- closed; and that it stays so where the cells of the set and of its parts stay.
 -- Assumes nothing.
-use Prim.Native.Nat.{ℕ, _+_, _-_, _^_, _≤_, _<_}
-use mathlib.Core.Path.{_≡_, refl, sym, ap, _∙_, subst}
+use Prim.Native.Nat.{ℕ, _+_, _-_, _≤_, _<_}
+use mathlib.Core.Path.{_≡_, sym, ap, _∙_, subst}
 use mathlib.Core.Logic.{_≢_}
 use native.Mathlib.Omega.{arith}
 use native.Mathlib.Decide.{decLt}
 use lib.Bits.{bitAnd, and-comm, and-self}
 use lib.Dec.{ltb, ltb→lt, nltb→le}
-use lib.Pow.{pow-lt}
 use Rattle.lists.specs.Tests.{by-fact}
 use Rattle.subset.specs.Sets.{single, Part}
-use Rattle.subset.specs.Parts.{single-ne, part-sum, part-sum-right}
+use Rattle.subset.specs.Parts.{part-sum, part-sum-right}
 use Rattle.graph.specs.Graph.{Graph, Sound, Landing}
-use Rattle.graph.specs.Tables.{Closed, StartedSet, ClosedSet}
+use Rattle.graph.specs.Tables.{StartedSet, ClosedSet}
 
 -- the two sets of a split are parts of the set
 part-left : (y z w : ℕ) → bitAnd y z ≡ 0 → y + z ≡ w → Part y w
@@ -95,14 +94,3 @@ closed-kept G sound c d w same s =
       };
       arc = λ e l. omega (arith, s .arc e l, whole (G .start e) (sound .start-lt e l), whole (G .end e) (sound .end-lt e l));
     }
-
--- ---- all sets
-
--- a table is closed where the empty set's cells are 0 and each other set is closed
-pub sets-closed : (G : Graph) (c : ℕ → ℕ → ℕ) → ((v : ℕ) → v < G .nodes → c v 0 ≡ 0) → ((w : ℕ) → w ≢ 0 → w < 2 ^ G .terminals → ClosedSet G c w) → Closed G c
-sets-closed G c nothing sets = record {
-  nothing = nothing;
-  landing = λ v i on l t. sets (single i) (single-ne i) (pow-lt l) .started .landing v i on l refl t;
-  arc = λ e w l ne small. sets w ne small .arc e l;
-  split = λ v y z on ny nz d small. sets (y + z) (omega arith) small .started .split v y z on ny nz d refl;
-}

@@ -14,7 +14,7 @@ use Rattle.lists.specs.Listed.{listed, listed-head, listed-tail, listed-cases, 
 use Rattle.lists.specs.Sums.{sum-append}
 use Rattle.subset.specs.Sets.{has, single}
 use Rattle.subset.specs.Terminals.{has-single, has-sum}
-use Rattle.graph.specs.Graph.{Graph, Sound}
+use Rattle.graph.specs.Graph.{Graph, Sound, Landing}
 use Rattle.graph.specs.Paths.{DirectedPath}
 use Rattle.graph.specs.Subtrees.{Subtree, held, Covers, total}
 use Rattle.graph.specs.Growth.{kept}
@@ -51,11 +51,11 @@ pub record Connected (G : Graph) (v w x : ℕ) (L : List ℕ) : Type 0 where
   pub cheap : total G v L ≤ x
 
 -- no arc, where a terminal has a landing at v
-pub connected-landing : (G : Graph) (v i x : ℕ) → i < G .terminals → T (has (G .landings v) i) → G .charge v ≤ x → Connected G v (single i) x []
+pub connected-landing : (G : Graph) (v i x : ℕ) → i < G .terminals → Landing G i v → G .charge v ≤ x → Connected G v (single i) x []
 connected-landing G v i x l t h = record {
   on-graph = λ e t. absurd t;
   reached = λ e t. absurd t;
-  covers = λ j lj tj. (v, listed-head v [], subst (λ (a : ℕ). T (has (G .landings v) a)) (eqb→eq i j (subst T (has-single i j) tj)) t);
+  covers = λ j lj tj. (v, listed-head v [], subst (λ (a : ℕ). Landing G a v) (eqb→eq i j (subst T (has-single i j) tj)) t);
   cheap = omega arith;
 }
 
