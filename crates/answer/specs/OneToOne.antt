@@ -3,6 +3,7 @@
 use Prim.Native.Nat.{ℕ}
 use mathlib.Core.Path.{_≡_, refl, sym, ap, _∙_}
 use mathlib.Core.Bool.{cond}
+use native.Mathlib.Omega.{arith}
 use lib.Dec.{eqb}
 use Rattle.limits.specs.Refusals.{shortSheet, strangeMark, badHead, noSuchSite, noSuchStation, loop, badPrice, tooManyLegs, afterTheEnd, unheard, shortTables, noPlan, shortBuffer, cutPlan, badPlan, unknownNumber, noTree, stationMissed}
 use Rattle.answer.specs.declared.SheetFault.the-variants.{ShortSheet, StrangeMark, BadHead, NoSuchSite, NoSuchStation, Loop, BadPrice, TooManyLegs, AfterTheEnd, Unheard}
@@ -109,3 +110,10 @@ enquiry-found (RefusedEnquiry refusal) = find-refusal _ _ _ _ RefusedEnquiry ref
 -- two answers of the enquirer of which the same is stated are one answer
 pub enquiry-one-to-one : (a b : Enquiry) → statedEnquiry a ≡ statedEnquiry b → a ≡ b
 enquiry-one-to-one a b same = sym (enquiry-found a) ∙ ap findEnquiry same ∙ enquiry-found b
+
+-- what is stated of a refusal is not what is stated of a plan
+pub refusal-no-plan : (refusal : Refusal) (root total arcs : ℕ) → statedRefusal refusal ≡ plan root total arcs → ⊥
+refusal-no-plan refusal root total arcs same =
+    let q : Refused refusal ≡ Plan root total arcs = answer-one-to-one (Refused refusal) (Plan root total arcs) same in
+    let z : _≡_ {A = ℕ} 0 1 = cc q in
+    omega arith

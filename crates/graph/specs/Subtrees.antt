@@ -35,6 +35,10 @@ held G r L = r ∷ map (G .end) L
 abbrev pub Covers : Graph → ℕ → List ℕ → ℕ → Type 0
 Covers G r L w = (i : ℕ) → i < G .terminals → T (has w i) → (v : ℕ) × T (listed v (held G r L)) × Landing G i v
 
+-- it holds a landing of every terminal
+abbrev pub CoversAll : Graph → ℕ → List ℕ → Type 0
+CoversAll G r L = (i : ℕ) → i < G .terminals → (v : ℕ) × T (listed v (held G r L)) × Landing G i v
+
 -- its total: the weights of its arcs, and the charges of the nodes that it holds
 abbrev pub total : Graph → ℕ → List ℕ → ℕ
 total G r L = sumBy (G .weight) L + sumBy (G .charge) (held G r L)
@@ -53,8 +57,12 @@ areApart G L = areDistinct (map (G .end) L)
 abbrev pub areJoined : Graph → ℕ → List ℕ → Bool
 areJoined G r L = allOf (λ e. isReached G L r (G .start e)) L
 
+-- "A file's legs are a tree when none ends at the root, no two end at one site, and each start is reached from the root."
+abbrev pub isTree : Graph → ℕ → List ℕ → Bool
+isTree G r L = isRootFree G r L && (areApart G L && areJoined G r L)
+
 abbrev pub isSubtree : Graph → ℕ → List ℕ → Bool
-isSubtree G r L = ltb r (G .nodes) && (areArcs G L && (isRootFree G r L && (areApart G L && areJoined G r L)))
+isSubtree G r L = ltb r (G .nodes) && (areArcs G L && isTree G r L)
 
 -- some held node is a landing of terminal i
 abbrev pub isLanded : Graph → ℕ → List ℕ → ℕ → Bool

@@ -2,7 +2,7 @@
 -- is document 01's, unless another document is named.
 -- Assumes nothing.
 use Prim.Native.Nat.{ℕ, suc, _+_, _-_, _*_, _^_, _≤_, _<_}
-use mathlib.Core.Path.{_≡_, sym, subst}
+use mathlib.Core.Path.{_≡_, refl, sym, subst}
 use mathlib.Core.Logic.{_≢_, _↔_}
 use mathlib.Core.Bool.{not}
 use mathlib.Core.Option.{none, some}
@@ -13,16 +13,16 @@ use lib.Dec.{T}
 use lib.ListN.{length}
 use lib.Pow.{ones-lt}
 use Rattle.lists.specs.Every.{Every}
-use Rattle.lists.specs.Count.{count}
+use Rattle.lists.specs.Count.{bit, count}
 use Rattle.lists.specs.Find.{first}
 use Rattle.lists.specs.Listed.{listed, every-listed, Distinct}
 use Rattle.lists.specs.Sums.{same-count, sumTo}
 use Rattle.subset.specs.Sets.{full, single, Part}
-use Rattle.subset.specs.Parts.{part-le, full-ne}
+use Rattle.subset.specs.Parts.{part-le, full-every, full-ne}
 use Rattle.subset.specs.Sequences.{earlier-part}
 use Rattle.graph.specs.Graph.{Graph, Sound, Landing}
 use Rattle.graph.specs.Paths.{DirectedPath, Reaches, ReachesAll, reachedIn, isReached, reachedNodes, Touched, OnePath}
-use Rattle.graph.specs.Subtrees.{Subtree, held, Covers, total, isSubtree, isCovering}
+use Rattle.graph.specs.Subtrees.{Subtree, held, Covers, CoversAll, total, isTree, isSubtree, isCovering}
 use Rattle.graph.specs.LeastTotals.{leastTotal, leastCell, IsLeastTotal, IsCostTable, Room}
 use Rattle.graph.specs.Growth.{firstExtending, keptThen, growIn, grow, kept}
 use Rattle.graph.specs.Tables.{Closed, Support, Supported, Capped, StartedSet, ClosedSet, put}
@@ -33,7 +33,8 @@ use Rattle.graph.specs.laws.SubtreeSize.{subtree-length}
 use Rattle.graph.specs.laws.Growing.{grow-enough, grow-rule, parts-count, kept-subtree, reached-kept, kept-reached, kept-total}
 use Rattle.graph.specs.laws.Growing.{kept-all, subtree-kept, kept-same, whole-subtree, counts-whole}
 use Rattle.graph.specs.laws.ReachTest.{reached-path, path-reached, reached-enough, reached-node, node-reached}
-use Rattle.graph.specs.laws.SubtreeTest.{test-subtree, subtree-passes, test-covers, covers-passes}
+use Rattle.graph.specs.laws.SubtreeTest.{tree-subtree, subtree-tree, test-subtree, subtree-passes, test-covers, covers-passes}
+use Rattle.graph.specs.laws.ReachedCount.{subtree-count, count-subtree}
 use Rattle.graph.specs.laws.LowerBound.{subtree-lower}
 use Rattle.graph.specs.laws.UpperBound.{attain}
 use Rattle.graph.specs.laws.LeastMeaning.{least-total, least-bound, room-charge}
@@ -58,8 +59,16 @@ node-test G L u v = (reached-node G L u v, λ h. node-reached G L u v (h .0) (h 
 pub subtree-test : (G : Graph) (r : ℕ) (L : List ℕ) → T (isSubtree G r L) ↔ Subtree G r L
 subtree-test G r L = (test-subtree G r L, subtree-passes G r L)
 
+-- arcs of the graph, with a node for the root, are a directed subtree exactly where they are a tree by document 01's three clauses
+pub tree-test : (G : Graph) (r : ℕ) (L : List ℕ) → r < G .nodes → Every (λ e. e < G .arcs) L → T (isTree G r L) ↔ Subtree G r L
+tree-test G r L on arcs = (tree-subtree G r L on arcs, subtree-tree G r L)
+
 pub covers-test : (G : Graph) (r : ℕ) (L : List ℕ) (w : ℕ) → T (isCovering G r L w) ↔ Covers G r L w
 covers-test G r L w = (test-covers G r L w, covers-passes G r L w)
+
+-- to hold a landing of each terminal of the full set is to hold one of every terminal
+pub covers-all : (G : Graph) (r : ℕ) (L : List ℕ) → Covers G r L (full (G .terminals)) ↔ CoversAll G r L
+covers-all G r L = (λ cov i l. cov i l (full-every (G .terminals) (full (G .terminals)) refl i l), λ all i l _. all i l)
 
 -- more turns than the definition takes change nothing
 pub reach-turns : (G : Graph) (L : List ℕ) (u m v : ℕ) → length L ≤ m → listed v (reachedIn m G L u) ≡ isReached G L u v
@@ -159,6 +168,13 @@ module _ (G : Graph) (r : ℕ) (L : List ℕ) where
     (λ t e. sym (same-count L (kept G r L) (kept-same G r L (subtree-kept G r L t)) e)),
     (λ same. whole-subtree G r L on (every-listed (λ e. e < G .arcs) L arcs) (counts-whole G r L same)),
   )
+
+-- a list of arcs is a directed subtree exactly where it reaches one node more than it has arcs
+pub subtree-iff-count : (G : Graph) → Sound G → (r : ℕ) (L : List ℕ) → r < G .nodes → Every (λ e. e < G .arcs) L
+    → Subtree G r L ↔ (sumTo (G .nodes) (λ v. bit (isReached G L r v)) ≡ suc (length L))
+subtree-iff-count G sound r L on arcs =
+    let each = every-listed (λ e. e < G .arcs) L arcs in
+    (subtree-count G sound r L on each, count-subtree G sound r L on each)
 
 -- ==== 4. The layout at the least totals
 

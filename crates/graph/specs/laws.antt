@@ -8,9 +8,10 @@ pub mod UniquePaths
 -- growth
 pub mod GrownLists
 pub mod Growing
--- what the tests say, and which nodes are the root of a subtree
+-- what the tests say, how many nodes a list reaches, and which nodes are the root of a subtree
 pub mod ReachTest
 pub mod SubtreeTest
+pub mod ReachedCount
 pub mod Finite
 -- the least totals, and the root
 pub mod LeastMeaning

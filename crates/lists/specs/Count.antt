@@ -1,7 +1,7 @@
 -- How often a number occurs in a list: in lists put together, among the entries that pass a test,
 -- and where it stands if it occurs.
 -- Assumes nothing.
-use Prim.Native.Nat.{ℕ, zero, suc, _+_, _<_}
+use Prim.Native.Nat.{ℕ, zero, suc, _+_, _≤_, _<_}
 use mathlib.Core.Path.{_≡_, refl, sym, ap, _∙_, subst}
 use mathlib.Core.Bool.{Bool, true, false, not}
 use mathlib.Core.List.{List, [], _∷_, _++_}
@@ -16,6 +16,10 @@ use Rattle.lists.specs.Select.{keep, select}
 abbrev pub bit : Bool → ℕ
 bit true = 1
 bit false = 0
+
+pub bit-le : (b : Bool) → bit b ≤ 1
+bit-le true = omega arith
+bit-le false = omega arith
 
 pub bit-passed : (b : Bool) → T b → bit b ≡ 1
 bit-passed true t = refl

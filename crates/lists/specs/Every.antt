@@ -5,6 +5,7 @@ use Prim.Native.Nat.{ℕ, zero, suc, _<_}
 use mathlib.Core.Path.{sym, subst}
 use mathlib.Core.List.{List, [], _∷_, _++_, List·Memᴰ, List·Memᴰ·head, List·Memᴰ·tail}
 use native.Mathlib.Nat.{le-of-suc-le-suc, not-suc-le-zero}
+use native.Mathlib.Omega.{arith}
 use lib.ListN.{length, getD, take, drop, take-append-drop}
 
 module _ {A : Type 0} (P : A → Type 0) where
@@ -32,6 +33,10 @@ module _ {A : Type 0} (P : A → Type 0) where
   every-at [] e i d h = absurd (not-suc-le-zero h)
   every-at (x ∷ l) e zero d h = e .0
   every-at (x ∷ l) e (suc i) d h = every-at l (e .1) i d (le-of-suc-le-suc h)
+
+  pub at-every : (l : List A) (d : A) → ((i : ℕ) → i < length l → P (getD l i d)) → Every l
+  at-every [] d h = tt
+  at-every (x ∷ l) d h = (h zero (omega arith), at-every l d (λ i b. h (suc i) (omega arith)))
 
 -- what follows from P, every entry has too
 pub every-imp : {A : Type 0} (P Q : A → Type 0) → ((x : A) → P x → Q x) → (l : List A) → Every P l → Every Q l

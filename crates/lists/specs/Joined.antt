@@ -1,8 +1,13 @@
 -- Lists put one after the other: one list for each entry of another.
--- Functions that give the same lists, empty lists, and two lists of entries.
+-- Functions that give the same lists, empty lists, and two lists of entries; lists of one length.
 -- Assumes nothing.
+use Prim.Native.Nat.{ℕ, zero, suc, _+_, _*_, _<_}
 use mathlib.Core.Path.{_≡_, refl, sym, ap, ap₂, _∙_}
 use mathlib.Core.List.{List, [], _∷_, _++_, append-assoc}
+use native.Mathlib.Nat.{mul-zero, le-of-suc-le-suc, not-suc-le-zero}
+use native.Mathlib.Omega.{arith}
+use lib.ListN.{length, getD, drop, length-append}
+use lib.Seq.{drop-append-add}
 
 module _ {A B : Type 0} where
   -- the lists f s for each s of l, one after the other
@@ -24,3 +29,18 @@ module _ {A B : Type 0} where
   pub joined-append : (f : A → List B) (a b : List A) → joined f (a ++ b) ≡ joined f a ++ joined f b
   joined-append f [] b = refl
   joined-append f (s ∷ a) b = ap (λ (l : List B). f s ++ l) (joined-append f a b) ∙ sym (append-assoc (f s) (joined f a) (joined f b))
+
+  -- each list has m entries: so many have all together, and the list of entry i stands after m * i of them
+  module _ (f : A → List B) (m : ℕ) (size : (s : A) → length (f s) ≡ m) where
+    pub length-joined : (l : List A) → length (joined f l) ≡ m * length l
+    length-joined [] = omega arith
+    length-joined (s ∷ l) = omega (arith, length-append (f s) (joined f l), size s, length-joined l)
+
+    pub drop-joined : (l : List A) (i : ℕ) (d : A) → i < length l → drop (m * i) (joined f l) ≡ f (getD l i d) ++ joined f (drop (suc i) l)
+    drop-joined [] i d h = absurd (not-suc-le-zero h)
+    drop-joined (s ∷ l) zero d h = ap (λ (n : ℕ). drop n (f s ++ joined f l)) (mul-zero m)
+    drop-joined (s ∷ l) (suc i) d h =
+        let e : m * suc i ≡ length (f s) + m * i = omega (arith, size s) in
+        ap (λ (n : ℕ). drop n (f s ++ joined f l)) e
+        ∙ drop-append-add (f s) (joined f l) (m * i)
+        ∙ drop-joined l i d (le-of-suc-le-suc h)

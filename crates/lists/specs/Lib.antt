@@ -19,8 +19,10 @@ pub mod Sublists
 pub mod Members
 -- rising numbers
 pub mod Numbers
+pub mod Below
 pub mod Rising
--- lists put one after the other, tables written over, the rest of a list
+-- lists put one after the other, tables written over, lists stored from a place on, the rest of a list
 pub mod Joined
 pub mod Over
+pub mod Stores
 pub mod Rest

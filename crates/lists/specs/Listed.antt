@@ -107,6 +107,11 @@ unlisted-count x l n = go (count x l) refl
     go zero e = refl
     go (suc c) e = absurd (not-both (listed x l) (count-listed x l (omega arith)) n)
 
+-- a number that occurs at most once occurs once where it is listed, else not at all
+pub once-listed : (x : ℕ) (l : List ℕ) → count x l ≤ 1 → count x l ≡ bit (listed x l)
+once-listed x l few =
+    by-fact (listed x l) (λ b. count x l ≡ bit b) (λ t. omega (arith, listed-count x l t)) (λ n. unlisted-count x l n)
+
 -- ---- the entries that pass a test
 
 -- an entry that passes is among them, and what is among them is an entry that passes

@@ -4,7 +4,7 @@
 use Prim.Native.Nat.{ℕ, zero, suc, _+_, _≤_, _<_}
 use mathlib.Core.Path.{_≡_, refl, sym, ap, _∙_}
 use mathlib.Core.Logic.{_≢_}
-use mathlib.Core.List.{List, [], _∷_, map}
+use mathlib.Core.List.{List, [], _∷_, _++_, map, map-append}
 use native.Mathlib.Nat.{le-of-suc-le-suc, not-suc-le-zero}
 use native.Mathlib.Omega.{arith}
 use native.Mathlib.Decide.{ℕ-discrete}
@@ -16,7 +16,7 @@ use Rattle.lists.specs.Tests.{by-test}
 use Rattle.lists.specs.Every.{Every, every-imp}
 use Rattle.lists.specs.Sorted.{Sorted}
 use Rattle.lists.specs.Count.{bit, count}
-use Rattle.lists.specs.Listed.{listed, every-listed, count-listed}
+use Rattle.lists.specs.Listed.{listed, listed-value, every-listed, count-listed}
 
 -- n numbers, rising from a
 abbrev pub numbers : ℕ → ℕ → List ℕ
@@ -26,6 +26,12 @@ numbers a (suc n) = a ∷ numbers (suc a) n
 pub length-numbers : (a n : ℕ) → length (numbers a n) ≡ n
 length-numbers a zero = refl
 length-numbers a (suc n) = ap suc (length-numbers (suc a) n)
+
+-- one number more, at the end
+pub numbers-more : (a n : ℕ) → numbers a (suc n) ≡ numbers a n ++ ((a + n) ∷ [])
+numbers-more a zero = ap (λ (x : ℕ). x ∷ []) (omega arith)
+numbers-more a (suc n) =
+    ap (λ (l : List ℕ). a ∷ l) (numbers-more (suc a) n ∙ ap (λ (x : ℕ). numbers (suc a) n ++ (x ∷ [])) (omega arith))
 
 -- a number of `numbers a n` is a or more, and below a + n
 pub every-number : (a n : ℕ) → Every (λ x. (a ≤ x) × (x < a + n)) (numbers a n)
@@ -70,6 +76,15 @@ module _ (f : ℕ → ℕ) where
   getD-values a zero i d h = absurd (not-suc-le-zero h)
   getD-values a (suc n) zero d h = ap f (omega arith)
   getD-values a (suc n) (suc i) d h = getD-values (suc a) n i d (le-of-suc-le-suc h) ∙ ap f (omega arith)
+
+  -- one value more, at the end
+  pub values-more : (n : ℕ) → map f (numbers 0 (suc n)) ≡ map f (numbers 0 n) ++ (f n ∷ [])
+  values-more n =
+      ap (map f) (numbers-more 0 n) ∙ map-append f (numbers 0 n) ((0 + n) ∷ []) ∙ ap (λ (x : ℕ). map f (numbers 0 n) ++ (f x ∷ [])) (omega arith)
+
+  -- each of them is listed
+  pub value-in : (n i : ℕ) → i < n → T (listed (f i) (map f (numbers 0 n)))
+  value-in n i l = listed-value f (numbers 0 n) i (number-listed n i l)
 
 -- the values of two functions that agree below n
 pub same-values : (f g : ℕ → ℕ) (n : ℕ) → ((i : ℕ) → i < n → f i ≡ g i) → map f (numbers 0 n) ≡ map g (numbers 0 n)

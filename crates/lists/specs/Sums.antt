@@ -5,6 +5,7 @@ use Prim.Native.Nat.{ℕ, zero, suc, _+_, _*_, _≤_, _<_}
 use mathlib.Core.Path.{_≡_, refl, sym, ap, _∙_}
 use mathlib.Core.Logic.{_≢_, ⊎-elim}
 use mathlib.Core.List.{List, [], _∷_, _++_, map}
+use native.Mathlib.Numerals.{add-one}
 use native.Mathlib.Omega.{arith}
 use native.Mathlib.Decide.{ℕ-discrete}
 use lib.Dec.{T, eqb}
@@ -12,6 +13,7 @@ use lib.ListN.{length}
 use Rattle.lists.specs.Tests.{by-eq}
 use Rattle.lists.specs.Count.{bit, count}
 use Rattle.lists.specs.Listed.{listed, listed-head, listed-tail, listed-cases, every-listed, count-listed, listed-count, Distinct}
+use Rattle.lists.specs.Numbers.{numbers, values-more}
 
 -- the sum of f x for each entry x
 abbrev pub sumBy : (ℕ → ℕ) → List ℕ → ℕ
@@ -95,9 +97,24 @@ abbrev pub sumTo : ℕ → (ℕ → ℕ) → ℕ
 sumTo zero f = 0
 sumTo (suc n) f = f n + sumTo n f
 
+-- one number more
+pub sumTo-more : (n : ℕ) (f : ℕ → ℕ) → sumTo (n + 1) f ≡ f n + sumTo n f
+sumTo-more n f = ap (λ (m : ℕ). sumTo m f) (add-one n)
+
 pub sumTo-zero : (n : ℕ) → sumTo n (λ _. 0) ≡ 0
 sumTo-zero zero = refl
 sumTo-zero (suc n) = omega (arith, sumTo-zero n)
+
+-- functions with the same values below n have the same sum
+pub sumTo-same : (n : ℕ) (f g : ℕ → ℕ) → ((v : ℕ) → v < n → f v ≡ g v) → sumTo n f ≡ sumTo n g
+sumTo-same zero f g h = refl
+sumTo-same (suc n) f g h = omega (arith, h n (omega arith), sumTo-same n f g (λ v l. h v (omega arith)))
+
+-- as a sum over a list: the values of f at g 0, g 1, .., g (m - 1)
+pub sum-values : (f g : ℕ → ℕ) (m : ℕ) → sumTo m (λ i. f (g i)) ≡ sumBy f (map g (numbers 0 m))
+sum-values f g zero = refl
+sum-values f g (suc m) =
+    omega (arith, sum-values f g m, ap (sumBy f) (values-more g m), sum-append f (map g (numbers 0 m)) (g m ∷ []))
 
 pub sumTo-add : (n : ℕ) (f g : ℕ → ℕ) → sumTo n (λ v. f v + g v) ≡ sumTo n f + sumTo n g
 sumTo-add zero f g = omega arith

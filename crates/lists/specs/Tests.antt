@@ -5,6 +5,7 @@ use Prim.Native.Nat.{ℕ, suc, _<_}
 use mathlib.Core.Path.{_≡_, refl, sym, subst}
 use mathlib.Core.Logic.{_≢_, _⊎_, inl, inr}
 use mathlib.Core.Bool.{Bool, true, false, not, _&&_, _||_, cond}
+use mathlib.Core.Option.{none, some, Option·some-injective, Option·none-ne-some}
 use native.Mathlib.Omega.{arith}
 use native.Mathlib.Decide.{ℕ-discrete}
 use lib.Dec.{T, eqb, eqb→eq, eqb-refl, ltb, ltb→lt, lt→ltb}
@@ -61,6 +62,10 @@ and-right false b t = absurd t
 pub and-both : (a b : Bool) → T a → T b → T (a && b)
 and-both true b s t = t
 and-both false b s t = s
+
+-- the same with the answers known as equations
+pub both-true : (a b : Bool) → (a && b) ≡ true → (a ≡ true) × (b ≡ true)
+both-true a b e = (fact-true (and-left a b (true-fact e)), fact-true (and-right a b (true-fact e)))
 
 -- where the second test fails, both together fail
 pub and-not : (a b : Bool) → T (not b) → T (not (a && b))
@@ -121,3 +126,8 @@ choice-passed false x other n = absurd (n refl)
 pub choice-first : (b : Bool) (x other : ℕ) → T b → cond b x other ≡ x
 choice-first true x other t = refl
 choice-first false x other t = absurd t
+
+-- something chosen by a test, or else nothing: where it is something the test passed
+pub choice-some : {A : Type 0} (b : Bool) (x y : A) → cond b (some x) none ≡ some y → T b × (x ≡ y)
+choice-some true x y e = (tt, Option·some-injective x y e)
+choice-some false x y e = absurd (Option·none-ne-some y e)

@@ -1,14 +1,15 @@
 -- Loading a good sheet record after record: the tables hold the records that have been read, and at the end all of them.
 -- Assumes nothing.
 use Prim.Native.Nat.{ℕ, _+_, _≤_}
-use mathlib.Core.Path.{_≡_, refl, sym, ap, ap₂, _∙_, subst}
+use mathlib.Core.Path.{_≡_, sym, ap, ap₂, _∙_, subst}
 use mathlib.Core.Bool.{Bool, true, false, cond, _&&_}
 use mathlib.Core.List.{List, [], _∷_, _++_}
 use native.Mathlib.Omega.{arith}
-use borrow.Author.Tests.{leb-true}
+use borrow.Author.Tests.{leb-true, le-leb}
 use lib.Dec.{leb}
 use lib.ListN.{length, drop, replicate, length-append}
 use Rattle.limits.specs.Limits.{maxTerminals}
+use Rattle.lists.specs.Tests.{both-true}
 use Rattle.answer.specs.declared.SheetFault.{SheetFault}
 use Rattle.limits.specs.Refusals.{shortTables}
 use Rattle.answer.specs.Stated.{refused, ofTables, statedSheet}
@@ -16,8 +17,8 @@ use Rattle.sheet.specs.Records.{headSize, RecordOk}
 use Rattle.sheet.specs.Arcs.{arcs}
 use Rattle.sheet.specs.Verdict.{Verdict, good, bad, sizes, openingOf, stepOf, verdict}
 use Rattle.sheet.specs.Reads.{arcs-append, count-more, reading-extends}
-use Rattle.loader.specs.Tables.{Tables, tables, areLong, loaded, loadedBy, sheet, refusal, outcome, afterVerdict, loadingOf}
-use Rattle.loader.specs.Writing.{withRecord, long-fewer, LandingFits, Fits, Long, SameLengths, loaded-lengths, loaded-more, loaded-none, loaded-anew}
+use Rattle.loader.specs.Tables.{Tables, tables, Long, areLong, loaded, loadedBy, sheet, refusal, outcome, byVerdict, loadingOf}
+use Rattle.loader.specs.Writing.{withRecord, long-fewer, LandingFits, Fits, SameLengths, loaded-lengths, loaded-more, loaded-none, loaded-anew}
 use Rattle.sheet.specs.Underway.{Underway, stepped, underway-opened, underway-next, ended, stopped}
 use Rattle.sheet.specs.Judged.{judgedOf}
 use Rattle.sheet.specs.declared.record.Record.{Record}
@@ -152,57 +153,72 @@ module _ (s : List ℕ) (t₀ : Tables) (r : Reading) (t : Tables) (l : Loading 
 -- ---- the whole: judged, tested, loaded
 
 -- the verdict of a sheet that is judged good
-record JudgedGood (v : Verdict) (n k arcCount : ℕ) : Type 0 where
-  records : List Record
-  good-sheet : v ≡ good n k records
-  count : length (arcs records) ≡ arcCount
+pub record JudgedGood (v : Verdict) (n k arcCount : ℕ) : Type 0 where
+  pub records : List Record
+  pub good-sheet : v ≡ good n k records
+  pub count : length (arcs records) ≡ arcCount
 
-judged-good : (v : Verdict) (n k arcCount : ℕ) → Good n k arcCount ≡ judgedOf v → JudgedGood v n k arcCount
+pub judged-good : (v : Verdict) (n k arcCount : ℕ) → Good n k arcCount ≡ judgedOf v → JudgedGood v n k arcCount
 judged-good (good n' k' records) n k arcCount e = record { records = records; good-sheet = cc; count = cc }
 judged-good (bad f) n k arcCount e = let z : _≡_ {A = ℕ} 0 1 = cc in absurd (omega arith)
 
-and-true : (a b : Bool) → (a && b) ≡ true → (a ≡ true) × (b ≡ true)
-and-true true b e = (refl, e)
-and-true false b e = let z : _≡_ {A = ℕ} 0 1 = cc in absurd (omega arith)
-
-long-enough : (n arcCount : ℕ) (t : Tables) → areLong n arcCount t ≡ true → Long n arcCount t
+pub long-enough : (n arcCount : ℕ) (t : Tables) → areLong n arcCount t ≡ true → Long n arcCount t
 long-enough n arcCount t e =
     let a = leb arcCount (length (t .starts)) in
     let b = leb arcCount (length (t .ends)) in
     let c = leb arcCount (length (t .weights)) in
     let d = leb n (length (t .landings)) in
-    let p = and-true (a && b && c) d e in
-    let q = and-true (a && b) c (p .0) in
-    let o = and-true a b (q .0) in
+    let p = both-true (a && b && c) d e in
+    let q = both-true (a && b) c (p .0) in
+    let o = both-true a b (q .0) in
     record { starts = leb-true _ _ (o .0); ends = leb-true _ _ (o .1); weights = leb-true _ _ (q .1); landings = leb-true _ _ (p .1) }
+
+pub areLong-true : (n arcCount : ℕ) (t : Tables) → Long n arcCount t → areLong n arcCount t ≡ true
+areLong-true n arcCount t l =
+    λ i. le-leb _ _ (l .starts) i && le-leb _ _ (l .ends) i && le-leb _ _ (l .weights) i && le-leb _ _ (l .landings) i
+
+-- what follows the verdict on a sheet that is judged
+module _ {A : Type 0} (refuse : SheetFault → A) (short : A) (long : ℕ → ℕ → Bool) (next : ℕ → ℕ → List Record → A) (s : List ℕ) where
+  pub by-fault : (f : SheetFault) → Fault f ≡ judgedOf (verdict s) → refuse f ≡ byVerdict refuse short long next (verdict s)
+  by-fault f e = go (verdict s) e
+    where
+      go : (v : Verdict) → Fault f ≡ judgedOf v → refuse f ≡ byVerdict refuse short long next v
+      go (good n k records) q = let z : _≡_ {A = ℕ} 0 1 = cc in absurd (omega arith)
+      go (bad g) q = let same : f ≡ g = cc in ap refuse same
+
+  module _ (n k arcCount : ℕ) (f : JudgedGood (verdict s) n k arcCount) where
+    by-test : (b : Bool) → long n arcCount ≡ b → cond b (next n k (f .records)) short ≡ byVerdict refuse short long next (verdict s)
+    by-test b h =
+        sym (ap (byVerdict refuse short long next) (f .good-sheet)
+        ∙ ap (λ (c : Bool). cond c (next n k (f .records)) short) (ap (long n) (f .count) ∙ h))
+
+    pub by-short : long n arcCount ≡ false → short ≡ byVerdict refuse short long next (verdict s)
+    by-short = by-test false
+
+    pub by-good : long n arcCount ≡ true → next n k (f .records) ≡ byVerdict refuse short long next (verdict s)
+    by-good = by-test true
 
 module _ (s : List ℕ) (t : Tables) where
   module _ (n k arcCount : ℕ) (e : Good n k arcCount ≡ judgedOf (verdict s)) where
+    judged : JudgedGood (verdict s) n k arcCount
+    judged = judged-good (verdict s) n k arcCount e
+
     pub loadable-tested : areLong n arcCount t ≡ true → Loadable s t
-    loadable-tested h =
-        let f = judged-good (verdict s) n k arcCount e in
-        record { n = n; k = k; records = f .records; good-sheet = f .good-sheet; long = subst (λ (m : ℕ). Long n m t) (sym (f .count)) (long-enough n arcCount t h) }
+    loadable-tested h = record {
+      n = n;
+      k = k;
+      records = judged .records;
+      good-sheet = judged .good-sheet;
+      long = subst (λ (m : ℕ). Long n m t) (sym (judged .count)) (long-enough n arcCount t h);
+    }
 
-    after : (b : Bool) → areLong n arcCount t ≡ b
-        → (f : JudgedGood (verdict s) n k arcCount) → loadingOf s t ≡ cond b (outcome (sheet n k arcCount) (loaded n (f .records) t)) (outcome (refusal (refused ofTables shortTables 0)) t)
-    after b h f =
-        ap (λ (v : Verdict). afterVerdict v t) (f .good-sheet)
-        ∙ ap (λ (m : ℕ). cond (areLong n m t) (outcome (sheet n k m) (loaded n (f .records) t)) (outcome (refusal (refused ofTables shortTables 0)) t)) (f .count)
-        ∙ ap (λ (c : Bool). cond c (outcome (sheet n k arcCount) (loaded n (f .records) t)) (outcome (refusal (refused ofTables shortTables 0)) t)) h
-
-    pub loaded-whole : areLong n arcCount t ≡ true
-        → (t' : Tables) → t' ≡ loadedBy (verdict s) t → outcome (sheet n k arcCount) t' ≡ loadingOf s t
+    pub loaded-whole : areLong n arcCount t ≡ true → (t' : Tables) → t' ≡ loadedBy (verdict s) t → outcome (sheet n k arcCount) t' ≡ loadingOf s t
     loaded-whole h t' written =
-        let f = judged-good (verdict s) n k arcCount e in
-        ap (outcome (sheet n k arcCount)) (written ∙ ap (λ (v : Verdict). loadedBy v t) (f .good-sheet)) ∙ sym (after true h f)
+        ap₂ (λ (m : ℕ) (x : Tables). outcome (sheet n k m) x) (sym (judged .count)) (written ∙ ap (λ (v : Verdict). loadedBy v t) (judged .good-sheet))
+        ∙ by-good _ _ (λ n m. areLong n m t) _ s n k arcCount judged h
 
-    pub refused-short : areLong n arcCount t ≡ false
-        → outcome (refusal (refused ofTables shortTables 0)) t ≡ loadingOf s t
-    refused-short h = sym (after false h (judged-good (verdict s) n k arcCount e))
+    pub refused-short : areLong n arcCount t ≡ false → outcome (refusal (refused ofTables shortTables 0)) t ≡ loadingOf s t
+    refused-short h = by-short _ _ (λ n m. areLong n m t) _ s n k arcCount judged h
 
   pub refused-sheet : (f : SheetFault) → Fault f ≡ judgedOf (verdict s) → outcome (refusal (statedSheet f)) t ≡ loadingOf s t
-  refused-sheet f e = go (verdict s) e
-    where
-      go : (v : Verdict) → Fault f ≡ judgedOf v → outcome (refusal (statedSheet f)) t ≡ afterVerdict v t
-      go (good n k records) q = let z : _≡_ {A = ℕ} 0 1 = cc in absurd (omega arith)
-      go (bad g) q = cc
+  refused-sheet f e = by-fault (λ f. outcome (refusal (statedSheet f)) t) _ (λ n m. areLong n m t) _ s f e

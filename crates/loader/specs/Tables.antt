@@ -1,6 +1,6 @@
 -- The lent tables that a sheet is loaded into: how long they must be, and what they hold afterwards.
 -- Assumes nothing.
-use Prim.Native.Nat.{ℕ}
+use Prim.Native.Nat.{ℕ, _≤_}
 use mathlib.Core.Bool.{Bool, cond, _&&_}
 use mathlib.Core.List.{List, map}
 use lib.ListN.{length}
@@ -8,6 +8,7 @@ use lib.Dec.{leb}
 use Rattle.limits.specs.Refusals.{shortTables}
 use Rattle.lists.specs.Over.{over}
 use Rattle.answer.specs.Stated.{Stated, refused, ofTables, statedSheet, statedRefusal}
+use Rattle.answer.specs.declared.SheetFault.{SheetFault}
 use Rattle.sheet.specs.Arcs.{Arc, arcs}
 use Rattle.sheet.specs.Landings.{terminalSets}
 use Rattle.sheet.specs.Verdict.{Verdict, good, bad, verdict}
@@ -25,7 +26,14 @@ pub record Tables : Type 0 where
 abbrev pub tables : List ℕ → List ℕ → List ℕ → List ℕ → Tables
 tables starts ends weights landings = record { starts = starts; ends = ends; weights = weights; landings = landings }
 
--- tables of these lengths are long enough: each has at least the length stated for it, the number of legs or n
+-- "Tables are long enough when each needed one has at least the length stated for it": the number of legs, or n
+pub record Long (n arcCount : ℕ) (t : Tables) : Type 0 where
+  pub starts : arcCount ≤ length (t .starts)
+  pub ends : arcCount ≤ length (t .ends)
+  pub weights : arcCount ≤ length (t .weights)
+  pub landings : n ≤ length (t .landings)
+
+-- the same as a test of the lengths
 abbrev pub longEnough : (n arcCount starts ends weights landings : ℕ) → Bool
 longEnough n arcCount starts ends weights landings = leb arcCount starts && leb arcCount ends && leb arcCount weights && leb n landings
 
@@ -64,13 +72,15 @@ returned (Refused r) = refusal (statedRefusal r)
 pub data Outcome : Type 0 where
   outcome : Returned → Tables → Outcome
 
--- the sheet's refusals and 11 touch nothing
-abbrev pub afterVerdict : Verdict → Tables → Outcome
-afterVerdict (good n k records) t =
-    cond (areLong n (length (arcs records)) t)
-    (outcome (sheet n k (length (arcs records))) (loaded n records t))
-    (outcome (refusal (refused ofTables shortTables 0)) t)
-afterVerdict (bad fault) t = outcome (refusal (statedSheet fault)) t
+-- what follows a verdict: the sheet's refusal; 11, where the tables are not long enough for n sites and so many legs; or what is done with a
+-- good sheet
+module _ {A : Type 0} (refuse : SheetFault → A) (short : A) (long : ℕ → ℕ → Bool) (next : ℕ → ℕ → List Record → A) where
+  abbrev pub byVerdict : Verdict → A
+  byVerdict (good n k records) = cond (long n (length (arcs records))) (next n k records) short
+  byVerdict (bad fault) = refuse fault
 
+-- the sheet's refusals and 11 touch nothing
 abbrev pub loadingOf : List ℕ → Tables → Outcome
-loadingOf bytes t = afterVerdict (verdict bytes) t
+loadingOf bytes t =
+    byVerdict (λ fault. outcome (refusal (statedSheet fault)) t) (outcome (refusal (refused ofTables shortTables 0)) t) (λ n m. areLong n m t)
+    (λ n k records. outcome (sheet n k (length (arcs records))) (loaded n records t)) (verdict bytes)

@@ -16,7 +16,7 @@ use Rattle.sheet.specs.Arcs.{Arc, arcsOf, arcs}
 use Rattle.sheet.specs.Landings.{terminalsOf, terminalsAt, terminalSets}
 use Rattle.sheet.specs.Records.{RecordOk}
 use Rattle.sheet.specs.Reads.{arcs-more, count-more, terminals-more}
-use Rattle.loader.specs.Tables.{Tables, tables, filled, loaded}
+use Rattle.loader.specs.Tables.{Tables, tables, Long, filled, loaded}
 use Rattle.sheet.specs.declared.record.Record.{Record}
 use Rattle.sheet.specs.declared.record.Record.the-variants.{OneWay, BothWays, Landing}
 
@@ -54,13 +54,6 @@ pub record Fits (i : ℕ) (x : Record) (t : Tables) : Type 0 where
   pub ends : i + length (arcsOf x) ≤ length (t .ends)
   pub weights : i + length (arcsOf x) ≤ length (t .weights)
   pub landings : LandingFits x (length (t .landings))
-
--- the tables have room for so many sites and legs
-pub record Long (n arcCount : ℕ) (t : Tables) : Type 0 where
-  pub starts : arcCount ≤ length (t .starts)
-  pub ends : arcCount ≤ length (t .ends)
-  pub weights : arcCount ≤ length (t .weights)
-  pub landings : n ≤ length (t .landings)
 
 -- tables that are long enough for so many legs are long enough for fewer
 pub long-fewer : (n fewer arcCount : ℕ) (t : Tables) → fewer ≤ arcCount → Long n arcCount t → Long n fewer t

@@ -1,14 +1,14 @@
 -- Numbers and their bytes: the number of a number's bytes is that number, and the bytes of the number at a place are the bytes there.
 -- Assumes nothing.
-use Prim.Native.Nat.{ℕ, _+_, _/_, _%_, _≤_, _<_, _^_}
+use Prim.Native.Nat.{ℕ, _+_, _*_, _/_, _%_, _≤_, _<_, _^_}
 use mathlib.Core.Path.{_≡_, sym, ap, ap₂, _∙_, subst}
 use mathlib.Core.List.{List, _∷_, _++_}
 use native.Mathlib.Numerals.{add-one}
 use native.Mathlib.Omega.{arith}
 use lib.ListN.{length, getD, drop}
-use lib.Seq.{drop-cons}
-use Rattle.lists.specs.Every.{Every, every-drop}
-use Rattle.sheet.specs.Fields.{number8, number16, number32, bytes16, bytes32}
+use lib.Seq.{drop-cons, getD-drop}
+use Rattle.lists.specs.Every.{at-every, every-drop}
+use Rattle.sheet.specs.Fields.{Bytes, number8, number16, number32, bytes16, bytes32}
 
 -- ---- from a number to its bytes and back
 
@@ -21,20 +21,33 @@ number32-bytes x rest h =
 
 -- ---- from bytes to their number and back
 
+-- the number of two bytes at a place of what is left of a list
+pub number16-drop : (n at : ℕ) (s : List ℕ) → number16 (drop n s) at ≡ number16 s (n + at)
+number16-drop n at s =
+    let e : n + (at + 1) ≡ n + at + 1 = omega arith in
+    ap₂ (λ (a b : ℕ). a * 256 + b) (getD-drop n s at 0) (getD-drop n s (at + 1) 0 ∙ ap (λ (i : ℕ). getD s i 0) e)
+
 -- the number x of one byte stands at a place
 pub field8 : (s : List ℕ) (at x : ℕ) → at + 1 ≤ length s → number8 s at ≡ x → drop at s ≡ x ∷ drop (at + 1) s
 field8 s at x h e = drop-cons s at 0 (omega arith) ∙ ap₂ (λ (b j : ℕ). b ∷ drop j s) e (sym (add-one at))
 
--- every entry is a byte
-abbrev pub Bytes : List ℕ → Type 0
-Bytes = Every (λ (b : ℕ). b < 256)
+-- a list is bytes where each entry, however far, is below 256
+pub known-bytes : (s : List ℕ) → ((i : ℕ) → getD s i 0 < 256) → Bytes s
+known-bytes s known = at-every (λ (b : ℕ). b < 256) s 0 (λ i _. known i)
 
 module _ (s : List ℕ) (bytes : Bytes s) where
   -- an entry is below 256
   byte-at : (at : ℕ) → at < length s → getD s at 0 < 256
   byte-at at h = subst Bytes (drop-cons s at 0 h) (every-drop (λ (b : ℕ). b < 256) at s bytes) .0
 
-  -- the same of two and of four bytes
+  -- the number of two or of four bytes fits them
+  pub number16-fits : (at : ℕ) → at + 2 ≤ length s → number16 s at < 2 ^ 16
+  number16-fits at h = omega (arith, byte-at at (omega arith), byte-at (at + 1) (omega arith))
+
+  pub number32-fits : (at : ℕ) → at + 4 ≤ length s → number32 s at < 2 ^ 32
+  number32-fits at h = omega (arith, number16-fits at (omega arith), number16-fits (at + 2) (omega arith))
+
+  -- the number x of two or of four bytes stands at a place
   pub field16 : (at x : ℕ) → at + 2 ≤ length s → number16 s at ≡ x → drop at s ≡ bytes16 x ++ drop (at + 2) s
   field16 at x h e =
       let a = byte-at at (omega arith) in
@@ -46,11 +59,8 @@ module _ (s : List ℕ) (bytes : Bytes s) where
 
   pub field32 : (at x : ℕ) → at + 4 ≤ length s → number32 s at ≡ x → drop at s ≡ bytes32 x ++ drop (at + 4) s
   field32 at x h e =
-      let low = number16-lt (at + 2) (omega arith) in
+      let low = number16-fits (at + 2) (omega arith) in
       let j : at + 2 + 2 ≡ at + 4 = omega arith in
       field16 at (x / 65536) (omega arith) (omega arith)
       ∙ ap (λ (l : List ℕ). bytes16 (x / 65536) ++ l) (field16 (at + 2) (x % 65536) (omega arith) (omega arith))
       ∙ ap (λ (i : ℕ). bytes32 x ++ drop i s) j
-    where
-      number16-lt : (i : ℕ) → i + 2 ≤ length s → number16 s i < 65536
-      number16-lt i l = omega (arith, byte-at i (omega arith), byte-at (i + 1) (omega arith))

@@ -1,8 +1,13 @@
--- The fields of a record: unsigned numbers, highest byte first.
+-- The fields of a record, of a sheet or of a plan file: unsigned numbers, highest byte first.
 -- Assumes nothing.
-use Prim.Native.Nat.{ℕ, _+_, _*_, _/_, _%_}
+use Prim.Native.Nat.{ℕ, _+_, _*_, _/_, _%_, _<_}
 use mathlib.Core.List.{List, [], _∷_, _++_}
 use lib.ListN.{getD}
+use Rattle.lists.specs.Every.{Every}
+
+-- every entry is a byte
+abbrev pub Bytes : List ℕ → Type 0
+Bytes = Every (λ (b : ℕ). b < 256)
 
 -- the number of one, two or four bytes that starts at a place
 abbrev pub number8 : List ℕ → ℕ → ℕ

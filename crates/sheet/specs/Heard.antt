@@ -2,39 +2,19 @@
 -- Assumes nothing.
 use Prim.Native.Nat.{ℕ, _<_, _^_}
 use mathlib.Core.Path.{_≡_, refl, sym, ap, ap₂, subst}
-use mathlib.Core.Logic.{_⊎_, inl, inr}
 use mathlib.Core.Bool.{Bool, true, false, cond}
-use mathlib.Core.List.{List, [], _∷_, List·Memᴰ, List·Memᴰ·head, List·Memᴰ·tail, Memᴰ·cast}
+use mathlib.Core.List.{List, List·Memᴰ, Memᴰ·cast}
 use lib.Dec.{T, eqb, eqb→eq, eqb-refl}
 use borrow.Author.Tests.{eqb-true, eq-eqb}
 use Rattle.lists.specs.Every.{Every, every-mem}
-use Rattle.subset.specs.Sets.{empty, full, single, has, union}
+use Rattle.subset.specs.Sets.{empty, full, single, has}
 use Rattle.subset.specs.Terminals.{has-empty, has-single}
-use Rattle.subset.specs.Parts.{part-has, part-union-left, part-union-right, union-has, terminals-lt, every-full, full-every}
-use Rattle.sheet.specs.Landings.{Heard, unions, terminalsOf, terminalsAt, heardBy, heard}
+use Rattle.subset.specs.Unions.{unions-has, has-unions}
+use Rattle.subset.specs.Parts.{terminals-lt, every-full, full-every}
+use Rattle.sheet.specs.Landings.{Heard, terminalsOf, terminalsAt, heardBy, heard}
 use Rattle.sheet.specs.Records.{RecordOk}
 use Rattle.sheet.specs.declared.record.Record.{Record}
 use Rattle.sheet.specs.declared.record.Record.the-variants.{OneWay, BothWays, Landing}
-
--- ---- the sets of the records, put together
-
-module _ (f : Record → ℕ) where
-  -- a station of it is in the set of one of the records
-  unions-has : (l : List Record) (i : ℕ) → T (has (unions f l) i) → (x : Record) × List·Memᴰ x l × T (has (f x) i)
-  unions-has [] i t = absurd (subst T (has-empty i) t)
-  unions-has (x ∷ l) i t = go (unions-has l i) (union-has (f x) (unions f l) i t)
-    where
-      go : (T (has (unions f l) i) → (y : Record) × List·Memᴰ y l × T (has (f y) i)) → T (has (f x) i) ⊎ T (has (unions f l) i)
-          → (y : Record) × List·Memᴰ y (x ∷ l) × T (has (f y) i)
-      go later (inl u) = (x, List·Memᴰ·head refl, u)
-      go later (inr u) = let m = later u in (m .0, List·Memᴰ·tail (m .1), m .2)
-
-  -- and the stations of each record's set are in it
-  has-unions : {x : Record} {l : List Record} (i : ℕ) → List·Memᴰ x l → T (has (f x) i) → T (has (unions f l) i)
-  has-unions {x} i (List·Memᴰ·head {x = y} {xs = l} e) t =
-      part-has (f y) (union (f y) (unions f l)) (part-union-left (f y) (unions f l)) i (subst (λ (z : Record). T (has (f z) i)) e t)
-  has-unions {x} i (List·Memᴰ·tail {x = y} {xs = l} m) t =
-      part-has (unions f l) (union (f y) (unions f l)) (part-union-right (f y) (unions f l)) i (has-unions i m t)
 
 -- ---- one record
 

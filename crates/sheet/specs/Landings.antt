@@ -2,10 +2,11 @@
 -- Assumes nothing.
 use Prim.Native.Nat.{ℕ}
 use mathlib.Core.Bool.{cond}
-use mathlib.Core.List.{List, [], _∷_, map, List·Memᴰ}
+use mathlib.Core.List.{List, map, List·Memᴰ}
 use lib.Dec.{eqb}
 use Rattle.lists.specs.Numbers.{numbers}
-use Rattle.subset.specs.Sets.{empty, single, union}
+use Rattle.subset.specs.Sets.{empty, single}
+use Rattle.subset.specs.Unions.{unions}
 use Rattle.sheet.specs.declared.record.Record.{Record}
 use Rattle.sheet.specs.declared.record.Record.the-variants.{OneWay, BothWays, Landing}
 
@@ -13,19 +14,13 @@ use Rattle.sheet.specs.declared.record.Record.the-variants.{OneWay, Both
 abbrev pub Heard : ℕ → List Record → Type 0
 Heard i records = (v : ℕ) × List·Memᴰ (Landing i v) records
 
--- the sets of the records, put together
-module _ (set : Record → ℕ) where
-  abbrev pub unions : List Record → ℕ
-  unions [] = empty
-  unions (x ∷ l) = union (set x) (unions l)
-
 -- the stations that have a landing at a site by one record
 abbrev pub terminalsOf : Record → ℕ → ℕ
 terminalsOf (OneWay start end weight) v = empty
 terminalsOf (BothWays start end weight) v = empty
 terminalsOf (Landing terminal node) v = cond (eqb node v) (single terminal) empty
 
--- a site's set of stations
+-- a site's set of stations: those of all records, put together
 abbrev pub terminalsAt : List Record → ℕ → ℕ
 terminalsAt records v = unions (λ x. terminalsOf x v) records
 

@@ -6,14 +6,13 @@ use mathlib.Core.Path.{_≡_, refl, sym, ap, _∙_}
 use mathlib.Core.List.{List, [], _∷_, _++_, append-assoc, append-nil}
 use native.Mathlib.Omega.{arith}
 use lib.ListN.{length, drop, length-append, length-drop}
-use lib.Bits.{or-zero-l, or-zero-r}
 use Rattle.answer.specs.declared.SheetFault.{SheetFault}
 use Rattle.lists.specs.Joined.{joined-append}
 use Rattle.subset.specs.Sets.{union}
-use Rattle.subset.specs.Parts.{union-assoc}
+use Rattle.subset.specs.Unions.{unions-more}
 use Rattle.sheet.specs.Records.{recordBytes, recordsBytes, headSize, size}
 use Rattle.sheet.specs.Arcs.{Arc, arcsOf, arcs}
-use Rattle.sheet.specs.Landings.{unions, terminalsOf, terminalsAt, heardBy}
+use Rattle.sheet.specs.Landings.{terminalsOf, terminalsAt, heardBy}
 use Rattle.sheet.specs.Verdict.{good, bad, sizes, stateAfter, after, foundIn, readFor, reading}
 use Rattle.sheet.specs.Passed.{size-low}
 use Rattle.sheet.specs.declared.record.Record.{Record}
@@ -28,11 +27,6 @@ arcs-append a b = joined-append arcsOf a b
 pub sizes-append : (a b : List Record) → sizes (a ++ b) ≡ sizes a + sizes b
 sizes-append a b = ap length (joined-append recordBytes a b) ∙ length-append (recordsBytes a) (recordsBytes b)
 
-unions-append : (set : Record → ℕ) (a b : List Record) → unions set (a ++ b) ≡ union (unions set a) (unions set b)
-unions-append set [] b = sym (or-zero-l (unions set b))
-unions-append set (x ∷ a) b =
-    ap (union (set x)) (unions-append set a b) ∙ sym (union-assoc (set x) (unions set a) (unions set b))
-
 -- ---- one record more
 
 pub arcs-more : (records : List Record) (x : Record) → arcs (records ++ (x ∷ [])) ≡ arcs records ++ arcsOf x
@@ -40,9 +34,6 @@ arcs-more records x = arcs-append records (x ∷ []) ∙ ap (λ (l : List Arc). 
 
 pub count-more : (records : List Record) (x : Record) → length (arcs (records ++ (x ∷ []))) ≡ length (arcs records) + length (arcsOf x)
 count-more records x = ap length (arcs-more records x) ∙ length-append (arcs records) (arcsOf x)
-
-unions-more : (set : Record → ℕ) (records : List Record) (x : Record) → unions set (records ++ (x ∷ [])) ≡ union (unions set records) (set x)
-unions-more set records x = unions-append set records (x ∷ []) ∙ ap (union (unions set records)) (or-zero-r (set x))
 
 pub terminals-more : (records : List Record) (x : Record) (v : ℕ) → terminalsAt (records ++ (x ∷ [])) v ≡ union (terminalsAt records v) (terminalsOf x v)
 terminals-more records x v = unions-more (λ y. terminalsOf y v) records x

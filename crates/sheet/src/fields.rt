@@ -1,4 +1,5 @@
 // The fields of a record: unsigned numbers, highest byte first, read from the part of the sheet after the record's mark.
+// `u16_at` and `u32_at` read the numbers of a plan file too.
 ghost use mathlib.Core.Path.{_≡_};
 ghost use Prim.Native.Nat.{_+_, _<_};
 ghost use lib.ListN.{length};

@@ -1,6 +1,7 @@
 pub mod Sets
 pub mod Terminals
 pub mod Parts
+pub mod Unions
 pub mod Sizes
 pub mod SetOf
 pub mod Sequences

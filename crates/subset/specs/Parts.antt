@@ -4,7 +4,7 @@
 -- Assumes nothing.
 use Prim.Native.Nat.{ℕ, zero, suc, _+_, _-_, _/_, _%_, _^_, _≤_, _<_}
 use mathlib.Core.Path.{_≡_, refl, sym, ap, _∙_, subst}
-use mathlib.Core.Logic.{_≢_, _⊎_, inl, inr}
+use mathlib.Core.Logic.{_≢_, _⊎_, inl, inr, _↔_}
 use mathlib.Core.Bool.{Bool, true, not, _&&_, _||_, or-assoc}
 use native.Mathlib.Nat.{mod-eq-of-lt}
 use native.Mathlib.Omega.{arith}
@@ -13,7 +13,7 @@ use lib.Dec.{T, eqb, eqb→eq, ltb→lt, lt→ltb}
 use lib.Pow.{lt-of-le-ones, pow-pos, pow-lt}
 use lib.Bits.{bitAnd, and-step, and-comm, and-le-r, and-le-l, and-zero-l, and-mask, or-disjoint}
 use borrow.Author.Tests.{eq-eqb, eqb-true}
-use Rattle.lists.specs.Tests.{and-right, or-cases, or-left, or-right}
+use Rattle.lists.specs.Tests.{eq-fact, and-right, or-cases, or-left, or-right}
 use Rattle.subset.specs.Sets.{full, single, has, Part, isPart, rest, union}
 use Rattle.subset.specs.Terminals.{has-zero, has-suc, has-and, has-union, has-rest, has-single, has-full}
 
@@ -92,10 +92,21 @@ single-ne i e = omega (arith, pow-pos i)
 pub terminals-lt : (k w : ℕ) → ((i : ℕ) → T (has w i) → i < k) → w < 2 ^ k
 terminals-lt k w h = part-lt k w (has-part w (full k) (λ i t. subst T (sym (has-full k i)) (lt→ltb i k (h i t))))
 
+-- the full set is a part of a set exactly where the set has every station below k
+pub full-within : (k w : ℕ) → Part (full k) w ↔ ((i : ℕ) → i < k → T (has w i))
+full-within k w = (
+  (λ p i l. part-has (full k) w p i (subst T (sym (has-full k i)) (lt→ltb i k l))),
+  (λ h. has-part (full k) w (λ i t. h i (ltb→lt i k (subst T (has-full k i) t)))),
+)
+
+pub full-part : (k w : ℕ) → T (isPart (full k) w) ↔ ((i : ℕ) → i < k → T (has w i))
+full-part k w =
+    let (there, back) = full-within k w in
+    ((λ t. there (eqb→eq (bitAnd (full k) w) (full k) t)), (λ h. eq-fact (back h)))
+
 -- a set below 2^k is the full set exactly where it has every station below k
 pub every-full : (k w : ℕ) → w < 2 ^ k → ((i : ℕ) → i < k → T (has w i)) → w ≡ full k
-every-full k w l h =
-    part-antisym w (full k) (lt-part k w l) (has-part (full k) w (λ i t. h i (ltb→lt i k (subst T (has-full k i) t))))
+every-full k w l h = let (_, part) = full-within k w in part-antisym w (full k) (lt-part k w l) (part h)
 
 pub full-every : (k w : ℕ) → w ≡ full k → (i : ℕ) → i < k → T (has w i)
 full-every k w e i l = subst T (sym (ap (λ (x : ℕ). has x i) e ∙ has-full k i)) (lt→ltb i k l)

@@ -3,7 +3,7 @@
 -- Assumes nothing.
 use Prim.Native.Nat.{ℕ, _+_, _≤_, _<_}
 use mathlib.Core.Path.{_≡_, refl, sym, _∙_, subst}
-use mathlib.Core.Logic.{_≢_}
+use mathlib.Core.Logic.{_≢_, ⊎-elim}
 use mathlib.Core.Bool.{not}
 use mathlib.Core.List.{List, [], _∷_, map}
 use native.Mathlib.Omega.{arith}
@@ -12,17 +12,18 @@ use Rattle.lists.specs.Count.{bit, count}
 use Rattle.lists.specs.Listed.{listed, every-listed, listed-every, listed-value, value-of, listed-count, unlisted-count, distinct-once, once-distinct}
 use Rattle.lists.specs.Sums.{sumBy, sum-add, sum-map, count-sum, Same, same-listed}
 use Rattle.lists.specs.Tests.{by-fact}
-use Rattle.graph.specs.Graph.{Graph}
+use Rattle.graph.specs.Graph.{Graph, Sound}
 use Rattle.graph.specs.Paths.{DirectedPath}
 use Rattle.graph.specs.Subtrees.{Subtree, held, total}
 use Rattle.graph.specs.laws.Reaching.{path-more}
+use Rattle.graph.specs.laws.Holding.{EndsAt, held-cases}
 
 -- how many entries of the list end at v
 abbrev pub endings : Graph → ℕ → List ℕ → ℕ
 endings G v L = sumBy (λ e. bit (eqb v (G .end e))) L
 
 -- that is how often v is among the ends
-endings-count : (G : Graph) (v : ℕ) (L : List ℕ) → count v (map (G .end) L) ≡ endings G v L
+pub endings-count : (G : Graph) (v : ℕ) (L : List ℕ) → count v (map (G .end) L) ≡ endings G v L
 endings-count G v L = count-sum v (map (G .end) L) ∙ sum-map (λ x. bit (eqb v x)) (G .end) L
 
 -- what an arc adds to a total: its weight, and the charge of the node that it leads to
@@ -49,6 +50,11 @@ module _ {G : Graph} {r : ℕ} {L : List ℕ} where
 
     pub start-reached : (e : ℕ) → T (listed e L) → DirectedPath G L r (G .start e)
     start-reached = every-listed (λ e. DirectedPath G L r (G .start e)) L (t .joined)
+
+    -- a held node is on the graph
+    pub held-lt : Sound G → (v : ℕ) → T (listed v (held G r L)) → v < G .nodes
+    held-lt sound v at = ⊎-elim (λ (q : v ≡ r). omega (arith, t .root))
+        (λ (d : EndsAt G L v). let (e, i, q) = d in omega (arith, q, sound .end-lt e (arc-of e i))) (held-cases G r L v at)
 
     -- no arc ends at the root, and at most one at each node
     pub root-endings : endings G r L ≡ 0

@@ -16,7 +16,7 @@ use Rattle.graph.specs.Subtrees.{Subtree, total}
 use Rattle.graph.specs.laws.SubtreeParts.{endings, cost, total-by-arc, arc-of, root-endings, node-endings}
 
 -- the arcs counted by the nodes at which they end
-count-ends : (G : Graph) → Sound G → (L : List ℕ) → ((e : ℕ) → T (listed e L) → e < G .arcs) → sumTo (G .nodes) (λ v. endings G v L) ≡ length L
+pub count-ends : (G : Graph) → Sound G → (L : List ℕ) → ((e : ℕ) → T (listed e L) → e < G .arcs) → sumTo (G .nodes) (λ v. endings G v L) ≡ length L
 count-ends G sound [] arcs = sumTo-zero (G .nodes)
 count-ends G sound (e ∷ L) arcs = omega (
   arith,

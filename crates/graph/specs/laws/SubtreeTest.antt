@@ -14,7 +14,7 @@ use Rattle.lists.specs.Listed.{every-listed, listed-every, Distinct, distinct-t
 use Rattle.subset.specs.Sets.{has}
 use Rattle.graph.specs.Graph.{Graph}
 use Rattle.graph.specs.Paths.{DirectedPath, isReached}
-use Rattle.graph.specs.Subtrees.{Subtree, held, Covers, areArcs, isRootFree, areApart, areJoined, isSubtree, isLanded, isCovering}
+use Rattle.graph.specs.Subtrees.{Subtree, held, Covers, areArcs, isRootFree, areApart, areJoined, isTree, isSubtree, isLanded, isCovering}
 use Rattle.graph.specs.laws.ReachTest.{reached-path, path-reached}
 
 module _ (G : Graph) (r : ℕ) (L : List ℕ) where
@@ -48,35 +48,37 @@ module _ (G : Graph) (r : ℕ) (L : List ℕ) where
 
   -- ---- a subtree
 
-  -- the later clauses together
+  -- the last two clauses of a tree together
   abbrev fromApart : Bool
   fromApart = areApart G L && areJoined G r L
 
-  abbrev fromRootFree : Bool
-  fromRootFree = isRootFree G r L && fromApart
-
-  abbrev fromArcs : Bool
-  fromArcs = areArcs G L && fromRootFree
-
-  pub test-subtree : T (isSubtree G r L) → Subtree G r L
-  test-subtree t =
-      let arcs : T fromArcs = and-right (ltb r (G .nodes)) fromArcs t in
-      let free : T fromRootFree = and-right (areArcs G L) fromRootFree arcs in
-      let ends : T fromApart = and-right (isRootFree G r L) fromApart free in
+  -- arcs of the graph, with a node for the root, are a subtree exactly where they are a tree
+  pub tree-subtree : r < G .nodes → Every (λ e. e < G .arcs) L → T (isTree G r L) → Subtree G r L
+  tree-subtree on arcs t =
+      let ends : T fromApart = and-right (isRootFree G r L) fromApart t in
       record {
-        root = ltb→lt r (G .nodes) (and-left (ltb r (G .nodes)) fromArcs t);
-        on-graph = test-arcs (and-left (areArcs G L) fromRootFree arcs);
-        root-free = test-root-free (and-left (isRootFree G r L) fromApart free);
+        root = on;
+        on-graph = arcs;
+        root-free = test-root-free (and-left (isRootFree G r L) fromApart t);
         apart = test-apart (and-left (areApart G L) (areJoined G r L) ends);
         joined = test-joined (and-right (areApart G L) (areJoined G r L) ends);
       }
 
+  pub subtree-tree : Subtree G r L → T (isTree G r L)
+  subtree-tree t =
+      and-both (isRootFree G r L) fromApart (root-free-passes (t .root-free))
+      (and-both (areApart G L) (areJoined G r L) (apart-passes (t .apart)) (joined-passes (t .joined)))
+
+  pub test-subtree : T (isSubtree G r L) → Subtree G r L
+  test-subtree t =
+      let arcs : T (areArcs G L && isTree G r L) = and-right (ltb r (G .nodes)) (areArcs G L && isTree G r L) t in
+      tree-subtree (ltb→lt r (G .nodes) (and-left (ltb r (G .nodes)) (areArcs G L && isTree G r L) t))
+      (test-arcs (and-left (areArcs G L) (isTree G r L) arcs)) (and-right (areArcs G L) (isTree G r L) arcs)
+
   pub subtree-passes : Subtree G r L → T (isSubtree G r L)
   subtree-passes t =
-      and-both (ltb r (G .nodes)) fromArcs (lt→ltb r (G .nodes) (t .root))
-      (and-both (areArcs G L) fromRootFree (arcs-pass (t .on-graph))
-      (and-both (isRootFree G r L) fromApart (root-free-passes (t .root-free))
-      (and-both (areApart G L) (areJoined G r L) (apart-passes (t .apart)) (joined-passes (t .joined)))))
+      and-both (ltb r (G .nodes)) (areArcs G L && isTree G r L) (lt→ltb r (G .nodes) (t .root))
+      (and-both (areArcs G L) (isTree G r L) (arcs-pass (t .on-graph)) (subtree-tree t))
 
   -- ---- what it holds
 
