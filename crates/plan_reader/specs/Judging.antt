@@ -1,0 +1,147 @@
+-- The tests of 17, 18 and 19 as the code makes them, from the marks of the nodes that the listed arcs reach: the arcs are a tree exactly where
+-- one more node is marked than arcs are listed; a tree holds a landing of every terminal exactly where the marked nodes have one of each; and
+-- the weights, added record by record, are those of the listed arcs.
+-- Assumes nothing.
+use Prim.Native.Nat.{ℕ, _+_, _<_}
+use mathlib.Core.Path.{_≡_, refl, sym, ap, _∙_, subst}
+use mathlib.Core.Bool.{Bool, true, false, cond}
+use mathlib.Core.Option.{Option}
+use mathlib.Core.List.{List}
+use native.Mathlib.Omega.{arith}
+use lib.ListN.{length, getD}
+use lib.Dec.{T, eqb, eqb→eq}
+use Rattle.lists.specs.Tests.{same-tests, by-fact, eq-fact, fact-true}
+use Rattle.lists.specs.Count.{bit}
+use Rattle.lists.specs.Every.{Every}
+use Rattle.lists.specs.Listed.{listed}
+use Rattle.lists.specs.Numbers.{value-in}
+use Rattle.lists.specs.Sums.{sumBy, sumTo, sumTo-same, sum-values}
+use Rattle.subset.specs.Sets.{empty, full, has, isPart, terminalsIn}
+use Rattle.subset.specs.Terminals.{has-empty}
+use Rattle.subset.specs.Parts.{full-part, full-every}
+use Rattle.subset.specs.Unions.{unionTo, has-unionTo}
+use Rattle.answer.specs.declared.PlanFault.{PlanFault}
+use Rattle.graph.specs.Graph.{Graph, Sound, Landing}
+use Rattle.graph.specs.InTables.{graphIn, weight-in, landings-in}
+use Rattle.graph.specs.Paths.{isReached}
+use Rattle.graph.specs.Subtrees.{Subtree, held, isTree, isCovering}
+use Rattle.graph.specs.laws.Holding.{held-reached, reached-held}
+use Rattle.graph.specs.laws.SubtreeParts.{start-reached, held-lt}
+use Rattle.graph.specs.laws.SubtreeTest.{test-covers, covers-passes}
+use Rattle.graph.specs.Theorems.{tree-test, subtree-iff-count}
+use Rattle.planfile.specs.Format.{listedArc, arcsTo}
+use Rattle.plan_reader.specs.Reader.{firstFailed, marksOf}
+use Rattle.plan_reader.specs.Marks.{marks-size, mark-at, marked-path, path-marked}
+
+-- ---- what the code computes
+
+-- the arcs of the first records are below m
+abbrev pub ArcsBelow : List ℕ → ℕ → ℕ → Type 0
+ArcsBelow file count m = (i : ℕ) → i < count → listedArc file i < m
+
+-- how many nodes are marked
+abbrev pub markedCount : List ℕ → ℕ
+markedCount marks = sumTo (length marks) (λ v. bit (eqb (getD marks v 0) 1))
+
+-- the terminals that have a landing at node v where it is marked, and those that have one at any marked node
+abbrev pub terminalsMarked : List ℕ → List ℕ → ℕ → ℕ
+terminalsMarked marks landings v = cond (eqb (getD marks v 0) 1) (terminalsIn (getD landings v 0)) empty
+
+abbrev pub markedTerminals : List ℕ → List ℕ → ℕ
+markedTerminals marks landings = unionTo (length marks) (terminalsMarked marks landings)
+
+-- the sum of the weights of the first arcs
+abbrev pub weightSum : List ℕ → ℕ → List ℕ → ℕ
+weightSum file count weights = sumTo count (λ i. getD weights (listedArc file i) 0)
+
+abbrev pub judgedFault : (file : List ℕ) (cost count k : ℕ) (weights landings marks : List ℕ) → Option PlanFault
+judgedFault file cost count k weights landings marks =
+    firstFailed (eqb (markedCount marks) (count + 1)) (isPart (full k) (markedTerminals marks landings)) (eqb cost (weightSum file count weights))
+
+-- ---- 17: how many nodes are marked
+
+pub tree-by-count : (G : Graph) → Sound G → (r : ℕ) (L : List ℕ) → r < G .nodes → Every (λ e. e < G .arcs) L
+    → eqb (markedCount (marksOf G L r)) (length L + 1) ≡ isTree G r L
+tree-by-count G sound r L on arcs =
+    let (counts, subtree) = subtree-iff-count G sound r L on arcs in
+    let (from-tree, tree) = tree-test G r L on arcs in
+    same-tests (eqb marked (length L + 1)) (isTree G r L)
+    (λ t. tree (subtree (omega (arith, counted, eqb→eq marked (length L + 1) t))))
+    (λ t. eq-fact {x = marked} {y = length L + 1} (omega (arith, counted, counts (from-tree t))))
+  where
+    marked : ℕ
+    marked = markedCount (marksOf G L r)
+
+    one : (b : Bool) → bit (eqb (bit b) 1) ≡ bit b
+    one true = refl
+    one false = refl
+
+    counted : marked ≡ sumTo (G .nodes) (λ v. bit (isReached G L r v))
+    counted =
+        ap (λ (n : ℕ). sumTo n (λ v. bit (eqb (getD (marksOf G L r) v 0) 1))) (marks-size G L r)
+        ∙ sumTo-same (G .nodes) (λ v. bit (eqb (getD (marksOf G L r) v 0) 1)) (λ v. bit (isReached G L r v))
+        (λ v l. ap (λ (x : ℕ). bit (eqb x 1)) (mark-at G L r v l) ∙ one (isReached G L r v))
+
+-- ---- 18: which terminals have a landing at a marked node
+
+module _ (marks landings : List ℕ) (v i : ℕ) where
+  marked-has : T (has (terminalsMarked marks landings v) i) → (getD marks v 0 ≡ 1) × T (has (terminalsIn (getD landings v 0)) i)
+  marked-has = by-fact (eqb (getD marks v 0) 1)
+      (λ b. T (has (cond b (terminalsIn (getD landings v 0)) empty) i) → (getD marks v 0 ≡ 1) × T (has (terminalsIn (getD landings v 0)) i))
+      (λ m t. (eqb→eq (getD marks v 0) 1 m, t)) (λ _ t. absurd (subst T (has-empty i) t))
+
+  has-marked : getD marks v 0 ≡ 1 → T (has (terminalsIn (getD landings v 0)) i) → T (has (terminalsMarked marks landings v) i)
+  has-marked m t =
+      subst (λ (b : Bool). T (has (cond b (terminalsIn (getD landings v 0)) empty) i)) (sym (fact-true {b = eqb (getD marks v 0) 1} (eq-fact m))) t
+
+pub covering-by-marks : (n k m : ℕ) (starts ends weights landings : List ℕ) → Sound (graphIn n k m starts ends weights landings)
+    → (r : ℕ) (L : List ℕ) → Subtree (graphIn n k m starts ends weights landings) r L
+    → isPart (full k) (markedTerminals (marksOf (graphIn n k m starts ends weights landings) L r) landings)
+    ≡ isCovering (graphIn n k m starts ends weights landings) r L (full k)
+covering-by-marks n k m starts ends weights landings sound r L t =
+    ap (λ (i : ℕ). isPart (full k) (unionTo i at)) size ∙ same-tests (isPart (full k) found) (isCovering G r L (full k))
+    (λ p.
+    let (every, _) = full-part k found in
+    covers-passes G r L (full k) (λ i l _. let (one, _) = has-unionTo n at i in landed i (one (every p i l))))
+    (λ p.
+    let (_, part) = full-part k found in
+    part (λ i l. let (_, in-union) = has-unionTo n at i in in-union (at-node i (test-covers G r L (full k) p i l (full-every k (full k) refl i l)))))
+  where
+    G : Graph
+    G = graphIn n k m starts ends weights landings
+
+    at : ℕ → ℕ
+    at = terminalsMarked (marksOf G L r) landings
+
+    found : ℕ
+    found = unionTo n at
+
+    size : length (marksOf G L r) ≡ n
+    size = marks-size G L r
+
+    -- a terminal with a landing at a marked node has one at a held node, and the other way round
+    landed : (i : ℕ) → (v : ℕ) × (v < n) × T (has (at v) i) → (v : ℕ) × T (listed v (held G r L)) × Landing G i v
+    landed i (v, l, h) =
+        let (marked, landing) = marked-has (marksOf G L r) landings v i h in (
+          v,
+          reached-held G r L (marked-path G L r v l marked),
+          subst (λ (w : ℕ). T (has w i)) (sym (landings-in n k m starts ends weights landings v l)) landing,
+        )
+
+    at-node : (i : ℕ) → (v : ℕ) × T (listed v (held G r L)) × Landing G i v → (v : ℕ) × (v < n) × T (has (at v) i)
+    at-node i (v, here, landing) =
+        let l : v < n = held-lt t sound v here in
+        let marked = path-marked G L r v l (held-reached G r L (start-reached t) v here) in
+        (v, l, has-marked (marksOf G L r) landings v i marked (subst (λ (w : ℕ). T (has w i)) (landings-in n k m starts ends weights landings v l) landing))
+
+-- ---- 19: the sum of the weights
+
+pub weights-sum : (n k a : ℕ) (starts ends weights landings file : List ℕ) (m : ℕ) → ((e : ℕ) → T (listed e (arcsTo file m)) → e < a)
+    → weightSum file m weights ≡ sumBy (graphIn n k a starts ends weights landings .weight) (arcsTo file m)
+weights-sum n k a starts ends weights landings file m arcs =
+    sumTo-same m (λ i. getD weights (listedArc file i) 0) (λ i. G .weight (listedArc file i))
+    (λ i l. sym (weight-in n k a starts ends weights landings (listedArc file i) (arcs (listedArc file i) (value-in (listedArc file) m i l))))
+    ∙ sum-values (G .weight) (listedArc file) m
+  where
+    G : Graph
+    G = graphIn n k a starts ends weights landings

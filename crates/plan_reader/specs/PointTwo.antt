@@ -1,0 +1,166 @@
+-- The mission, point 2, of the plan reader's answer as it is defined: with a good sheet and long enough tables it accepts a file exactly when
+-- the file encodes a directed subtree of the sheet's legs that holds a landing of every station, with its true total; and it accepts none
+-- without them.
+-- Assumes nothing.
+use Prim.Native.Nat.{ℕ, _<_}
+use mathlib.Core.Path.{_≡_, refl, sym, ap, _∙_, subst}
+use mathlib.Core.Bool.{Bool, true, false, _&&_}
+use mathlib.Core.Option.{Option, none, some}
+use mathlib.Core.List.{List}
+use native.Mathlib.Omega.{arith}
+use borrow.Author.Tests.{eqb-true, eq-eqb}
+use lib.Dec.{T, leb, eqb}
+use lib.ListN.{length}
+use Rattle.lists.specs.Every.{Every}
+use Rattle.lists.specs.Listed.{listed, listed-every, every-listed}
+use Rattle.lists.specs.Numbers.{length-values, value-in}
+use Rattle.lists.specs.Tests.{true-fact, fact-true}
+use Rattle.subset.specs.Sets.{full}
+use Rattle.answer.specs.Stated.{Stated, plan}
+use Rattle.answer.specs.OneToOne.{refusal-no-plan}
+use Rattle.answer.specs.declared.Refusal.the-variants.{Sheet, Tables, PlanFile}
+use Rattle.answer.specs.declared.TableFault.the-variants.{ShortTables}
+use Rattle.answer.specs.declared.PlanFault.{PlanFault}
+use Rattle.graph.specs.Graph.{Graph}
+use Rattle.graph.specs.Subtrees.{Subtree, total, isTree, isCovering}
+use Rattle.graph.specs.Theorems.{tree-test, covers-test, covers-all}
+use Rattle.sheet.specs.Arcs.{arcs}
+use Rattle.sheet.specs.Fields.{Bytes}
+use Rattle.sheet.specs.Verdict.{Verdict, good, bad, verdict}
+use Rattle.sheet.specs.declared.record.Record.{Record}
+use Rattle.loader.specs.Tables.{areLong}
+use Rattle.network.specs.Network.{graphOf}
+use Rattle.planfile.specs.Format.{rootIn, totalIn, countIn, listedArc, arcsIn}
+use Rattle.planfile.specs.Encoded.{WellFormed, FieldsAre, fields-encoding, encoding-fields}
+use Rattle.mission.specs.Runs.{ReaderTables, ReaderLong, Run, run}
+use Rattle.mission.specs.PointTwo.{EncodesPlan, AcceptsPlans, ReaderPointTwo}
+use Rattle.plan_reader.specs.Reader.{fileFault, orElse, planFault, treeFault, answered, answerTo, readingOf}
+use Rattle.plan_reader.specs.Faults.{some-fault, FileOk, file-passes, file-passed, listed-on, failed-none, none-failed}
+use Rattle.plan_reader.specs.Returned.{FieldsOf}
+use Rattle.plan_reader.specs.Rules.{sheet-refused, by-lengths, tested-long, file-read}
+
+-- ---- the answer
+
+-- an acceptance: there is no fault, and the numbers stand in the file
+accepted : (o : Option PlanFault) (file : List ℕ) (root cost count : ℕ) → answered o file ≡ plan root cost count → FieldsOf o file root cost count
+accepted none file root cost count e = record { no-fault = refl; root-is = sym (cc e); total-is = sym (cc e); count-is = sym (cc e) }
+accepted (some f) file root cost count e = absurd (refusal-no-plan (PlanFile f) root cost count e)
+
+-- no fault of the file by itself, and none against the sheet
+neither : (a b : Option PlanFault) → orElse a b ≡ none → (a ≡ none) × (b ≡ none)
+neither none b e = (refl, e)
+neither (some f) b e = some-fault refl e
+
+module _ (G : Graph) (file : List ℕ) where
+  -- the listed arcs are arcs of the graph
+  arcs-on : FileOk (G .nodes) (G .arcs) file → Every (λ e. e < G .arcs) (arcsIn file)
+  arcs-on ok = listed-every (λ e. e < G .arcs) (arcsIn file) (listed-on (G .nodes) (G .arcs) file ok)
+
+  well-formed : FileOk (G .nodes) (G .arcs) file → WellFormed file
+  well-formed ok = record { size = ok .head .size; head-mark = ok .head .mark; marks = λ i l. ok .arcs i l .mark }
+
+  -- an accepted file encodes a plan
+  accepted-encodes : Bytes file → (root cost count : ℕ) → answerTo G file ≡ plan root cost count → EncodesPlan G file root cost count
+  unfolding treeFault
+  accepted-encodes bytes root cost count e =
+      let a = accepted (orElse (fileFault (G .nodes) (G .arcs) file) (treeFault G file)) file root cost count e in
+      let (by-itself, against) = neither (fileFault (G .nodes) (G .arcs) file) (treeFault G file) (a .no-fault) in
+      let ok : FileOk (G .nodes) (G .arcs) file = file-passed (G .nodes) (G .arcs) file by-itself in
+      let L : List ℕ = arcsIn file in
+      let (tree, held, sum) =
+      none-failed (isTree G (rootIn file) L) (isCovering G (rootIn file) L (full (G .terminals))) (eqb (totalIn file) (total G (rootIn file) L))
+      against in
+      let (from-tree, _) = tree-test G (rootIn file) L (ok .head .root) (arcs-on ok) in
+      let (covers, _) = covers-test G (rootIn file) L (full (G .terminals)) in
+      let (all, _) = covers-all G (rootIn file) L in
+      let here : EncodesPlan G file (rootIn file) (totalIn file) (countIn file) =
+      record {
+        listed = L;
+        is-plan =
+            record {
+              subtree = from-tree (true-fact tree);
+              covers = all (covers (true-fact held));
+              true-total = eqb-true _ _ sum;
+            };
+        count-is = length-values (listedArc file) 0 (countIn file);
+        encoded = fields-encoding file bytes (well-formed ok);
+      } in
+      subst (EncodesPlan G file root cost) (sym (a .count-is))
+      (subst (λ (x : ℕ). EncodesPlan G file root x (countIn file)) (sym (a .total-is))
+      (subst (λ (x : ℕ). EncodesPlan G file x (totalIn file) (countIn file)) (sym (a .root-is)) here))
+
+  -- a file that encodes a plan is accepted
+  encoded-ok : (root cost : ℕ) (L : List ℕ) → FieldsAre file root cost L → Subtree G root L → FileOk (G .nodes) (G .arcs) file
+  encoded-ok root cost L f tree = record {
+    head = record {
+      whole = omega (arith, f .well-formed .size);
+      mark = f .well-formed .head-mark;
+      root = subst (λ (x : ℕ). x < G .nodes) (sym (f .root-is)) (tree .root);
+      size = f .well-formed .size;
+    };
+    arcs = λ i l. record {
+      mark = f .well-formed .marks i l;
+      arc = every-listed (λ e. e < G .arcs) L (tree .on-graph) (listedArc file i)
+          (subst (λ (x : List ℕ). T (listed (listedArc file i) x)) (f .arcs-are) (value-in (listedArc file) (countIn file) i l));
+    };
+  }
+
+  encodes-accepted : (root cost count : ℕ) → EncodesPlan G file root cost count → answerTo G file ≡ plan root cost count
+  unfolding treeFault
+  encodes-accepted root cost count p =
+      let f = encoding-fields file root cost (p .listed) (p .encoded) in
+      let by-itself = file-passes (G .nodes) (G .arcs) file (encoded-ok root cost (p .listed) f (p .is-plan .subtree)) in
+      let (_, tree) = tree-test G root (p .listed) (p .is-plan .subtree .root) (p .is-plan .subtree .on-graph) in
+      let (_, covering) = covers-test G root (p .listed) (full (G .terminals)) in
+      let (_, covers) = covers-all G root (p .listed) in
+      let passed : planFault G root cost (p .listed) ≡ none =
+      failed-none (isTree G root (p .listed)) (isCovering G root (p .listed) (full (G .terminals))) (eqb cost (total G root (p .listed)))
+      (fact-true (tree (p .is-plan .subtree)))
+      (fact-true (covering (covers (p .is-plan .covers))))
+      (eq-eqb _ _ (p .is-plan .true-total)) in
+      let against : treeFault G file ≡ none = (λ i. planFault G (f .root-is i) (f .total-is i) (f .arcs-are i)) ∙ passed in
+      ap (λ (o : Option PlanFault). answered (orElse o (treeFault G file)) file) by-itself
+      ∙ ap (λ (o : Option PlanFault). answered o file) against
+      ∙ (λ i. plan (f .root-is i) (f .total-is i) ((f .count-is ∙ p .count-is) i))
+
+-- ---- the mission's point 2
+
+pub point-two : ReaderPointTwo readingOf
+point-two sheet file bytes t n k records e long root cost count =
+    let G : Graph = graphOf n k records in
+    let same = ap (λ (r : Run ReaderTables). r .answer) (file-read sheet file t n k records e long) in (
+      (λ q. accepted-encodes G file bytes root cost count (sym same ∙ q)),
+      (λ p. same ∙ encodes-accepted G file root cost count p),
+    )
+
+-- a run with the defined outcome has it
+pub cites-point-two : (sheet file : List ℕ) → Bytes file → (t : ReaderTables) (answer : Stated) (after : ReaderTables)
+    → run answer after ≡ readingOf sheet file t → (run answer after ≡ readingOf sheet file t) × AcceptsPlans sheet file t answer
+cites-point-two sheet file bytes t answer after e =
+    (e, subst (AcceptsPlans sheet file t) (sym (ap (λ (r : Run ReaderTables). r .answer) e)) (point-two sheet file bytes t))
+
+-- ---- an acceptance is of a good sheet, with long enough tables
+
+pub record Accepting (sheet : List ℕ) (t : ReaderTables) : Type 0 where
+  pub n : ℕ
+  pub k : ℕ
+  pub records : List Record
+  pub good-sheet : verdict sheet ≡ good n k records
+  pub long : ReaderLong n (length (arcs records)) t
+
+pub accepted-good : (sheet file : List ℕ) (t : ReaderTables) (root cost count : ℕ) → readingOf sheet file t .answer ≡ plan root cost count → Accepting sheet t
+accepted-good sheet file t root cost count e = go (verdict sheet) refl
+  where
+    refused-at : {answer : Stated} → readingOf sheet file t .answer ≡ answer → answer ≡ plan root cost count
+    refused-at q = sym q ∙ e
+
+    go : (v : Verdict) → verdict sheet ≡ v → Accepting sheet t
+    go (bad f) q = absurd (refusal-no-plan (Sheet f) root cost count (refused-at (ap (λ (r : Run ReaderTables). r .answer) (sheet-refused sheet file t f q))))
+    go (good n k records) q = tested (areLong n (length (arcs records)) (t .tables) && leb n (length (t .marks))) refl
+      where
+        tested : (b : Bool) → (areLong n (length (arcs records)) (t .tables) && leb n (length (t .marks))) ≡ b → Accepting sheet t
+        tested true h =
+            record { n = n; k = k; records = records; good-sheet = q; long = tested-long sheet file t n k records q h }
+        tested false h =
+            absurd (refusal-no-plan (Tables ShortTables) root cost count
+            (refused-at (ap (λ (r : Run ReaderTables). r .answer) (by-lengths sheet file t n k records q false h))))

@@ -1,0 +1,3 @@
+// The plan file: its fields, and the writing of one into a lent buffer.
+pub mod fields;
+pub mod write;
