@@ -1,8 +1,8 @@
 // Sheets at the limits of document 01: sites, stations and legs.
 // A sheet with thousands of legs is built in a buffer, from one record that is put there many times.
-use crate::build::put;
-use crate::build::put_times;
 use crate::case::verdict;
+use case_text::build::put;
+use case_text::build::put_times;
 use sheet_text::print_field;
 
 fn most_nodes() {

@@ -1,14 +1,9 @@
 // A case: its name and what the loading of its sheet gave.
 // Before the loading the tables of small sheets hold values that no sheet has.
+use case_text::names::print_name;
 use loader::load_sheet;
-use sheet_text::print;
 use sheet_text::print_loaded;
 use sheet_text::print_verdict;
-
-pub fn print_name(name: &[u8]) {
-    print(name);
-    print(b": ");
-}
 
 // The verdict, the legs and the sites of a sheet of at most eight legs and eight sites.
 pub fn show(name: &[u8], sheet: &[u8]) {
@@ -19,12 +14,6 @@ pub fn show(name: &[u8], sheet: &[u8]) {
     let loaded = load_sheet(sheet, &mut starts, &mut ends, &mut weights, &mut landings);
     print_name(name);
     print_loaded(loaded, &starts, &ends, &weights, &landings);
-}
-
-// A case whose sheet is not readable: no sheet is loaded.
-pub fn show_unreadable(name: &[u8]) {
-    print_name(name);
-    print(b"case not readable\n");
 }
 
 // The verdict alone, with tables for the limits of document 01.

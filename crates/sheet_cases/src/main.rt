@@ -1,11 +1,8 @@
 // Many sheets, each with its name and what its loading gave: those of standard input, and those that the program builds.
 // The stored output is what the rules of document 01 give.
 mod bounds;
-mod build;
 mod case;
 mod cuts;
-mod lines;
-mod notation;
 mod tables;
 mod text;
 

@@ -1,9 +1,9 @@
 // The tables after a loading: the first entries written and the later ones untouched, or, after a refusal, all of them untouched.
 // Each table is lent with values that no sheet has, and all its entries are printed.
-use crate::case::print_name;
+use case_text::names::print_name;
+use case_text::tables::print_entries;
+use case_text::tables::print_weights;
 use loader::load_sheet;
-use sheet_text::print;
-use sheet_text::print_field;
 use sheet_text::print_verdict;
 ghost use Prim.Native.Nat.{_≤_};
 
@@ -23,36 +23,11 @@ const LATE: [u8; 23] = *b"HD\x00\x02\x01LK\x00\x00\x00\x01\x00\x00\x00\x05ST\x00
 // Station 1 has no landing.
 const UNHEARD: [u8; 22] = *b"HD\x00\x02\x02LK\x00\x00\x00\x01\x00\x00\x00\x05ST\x00\x00\x00ED";
 
-fn print_entry(entry: u16) {
-    print_field(b" ", entry as u64);
-}
-
-fn print_weight(weight: u32) {
-    print_field(b" ", weight as u64);
-}
-
-fn end_line() {
-    print(b"\n");
-}
-
-fn print_entries(word: &[u8], table: &[u16; 6]) {
-    print(word);
-    let mut i = 0;
-    while i < 6 {
-        print_entry(table[i]);
-        i += 1;
-    }
-    end_line();
-}
-
-fn print_weights(word: &[u8], table: &[u32; 6]) {
-    print(word);
-    let mut i = 0;
-    while i < 6 {
-        print_weight(table[i]);
-        i += 1;
-    }
-    end_line();
+fn print_tables(starts: &[u16; 6], ends: &[u16; 6], weights: &[u32; 6], landings: &[u16; 6]) {
+    print_entries(b"leg starts", starts);
+    print_entries(b"leg ends", ends);
+    print_weights(b"leg prices", weights);
+    print_entries(b"landing sets", landings);
 }
 
 // A sheet, and how many of the six entries of each table are lent: leg starts, leg ends, leg prices, landing sets.
@@ -79,10 +54,7 @@ fn lent(
     );
     print_name(name);
     print_verdict(loaded);
-    print_entries(b"leg starts", &starts);
-    print_entries(b"leg ends", &ends);
-    print_weights(b"leg prices", &weights);
-    print_entries(b"landing sets", &landings);
+    print_tables(&starts, &ends, &weights, &landings);
 }
 
 // Sheet C, which has two legs and three sites.

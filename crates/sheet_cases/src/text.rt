@@ -1,11 +1,11 @@
-// The cases of a text, one a line: a name, `: ` and a sheet in the notation of notation.rt.
+// The cases of a text, one a line: a name, `: ` and a sheet in the notation of case_text.
 // Empty lines and lines that begin with `#` are passed over.
 use crate::case::show;
-use crate::case::show_unreadable;
-use crate::lines::line_end;
-use crate::lines::name_end;
-use crate::notation::Decoded;
-use crate::notation::decode;
+use case_text::lines::line_end;
+use case_text::lines::name_end;
+use case_text::names::show_unreadable;
+use case_text::notation::Decoded;
+use case_text::notation::decode;
 
 // A case whose sheet has at most 256 bytes.
 fn run_case(name: &[u8], notation: &[u8]) {

@@ -24,7 +24,8 @@ fn print_good(n: u16, k: u8, arcs: u16) {
     print(b"\n");
 }
 
-fn print_refusal(refusal: Refusal) {
+// The number and the place of a refusal.
+pub fn print_refusal(refusal: Refusal) {
     let code = code_of(refusal);
     print_field(b"refused ", code.number as u64);
     print_field(b" at ", code.place as u64);

@@ -38,29 +38,8 @@ print-name-requires c κs = search needs
 print-verdict-requires : tie.Need-print-verdict-requires
 print-verdict-requires c κs = search needs
 
-slice-aggregate-print-entries : tie.Need-slice-aggregate-print-entries
-slice-aggregate-print-entries c = search needs
-
-print-entries-requires : tie.Need-print-entries-requires
-print-entries-requires c κs = search needs
-
-slice-aggregate-print-entries-2 : tie.Need-slice-aggregate-print-entries-2
-slice-aggregate-print-entries-2 c = search needs
-
-print-entries-requires-2 : tie.Need-print-entries-requires-2
-print-entries-requires-2 c κs = search needs
-
-slice-aggregate-print-weights : tie.Need-slice-aggregate-print-weights
-slice-aggregate-print-weights c = search needs
-
-print-weights-requires : tie.Need-print-weights-requires
-print-weights-requires c κs = search needs
-
-slice-aggregate-print-entries-3 : tie.Need-slice-aggregate-print-entries-3
-slice-aggregate-print-entries-3 c = search needs
-
-print-entries-requires-3 : tie.Need-print-entries-requires-3
-print-entries-requires-3 c κs = search needs
+print-tables-requires : tie.Need-print-tables-requires
+print-tables-requires c κs = search needs
 
 returns : tie.Need-returns
 returns c = search needs
@@ -80,12 +59,5 @@ lent-spec =
     load-sheet-requires
     print-name-requires
     print-verdict-requires
-    slice-aggregate-print-entries
-    print-entries-requires
-    slice-aggregate-print-entries-2
-    print-entries-requires-2
-    slice-aggregate-print-weights
-    print-weights-requires
-    slice-aggregate-print-entries-3
-    print-entries-requires-3
+    print-tables-requires
     returns)

@@ -1,19 +1,9 @@
 -- `sheet_cases::text::run_case` is safe: the sheet that `decode` read lies within the buffer.
 -- Assumes nothing.
-use Prim.Native.Nat.{ℕ}
-use mathlib.Core.Path.{_≡_, subst}
-use mathlib.Core.List.{List}
-use Rattle.io.specs.Counts.{Counts}
-use Rattle.sheet_cases.specs.Within.{Within}
-use Rattle.sheet_cases.specs.declared.notation.Decoded.{Decoded}
-use Rattle.sheet_cases.specs.declared.notation.Decoded.the-variants.{Length}
 use borrow.Author.Needs.{needs}
+use Rattle.case_text.specs.Within.{counted}
 use Rattle.sheet_cases.proofs.text.run_case.Statement.{statement}
 use Rattle.sheet_cases.proofs.text.run_case.Tie as tie
-
--- a length that was read counts bytes of the buffer
-counted : (d : Decoded) (n : ℕ) (sheet : List ℕ) → d ≡ Length n → Within d sheet → Counts n sheet
-counted d n sheet same within = subst (λ e. Within e sheet) same within
 
 slice-aggregate-decode : tie.Need-slice-aggregate-decode
 slice-aggregate-decode c = search needs

@@ -1,0 +1,2 @@
+-- what the contract of `decode` cites
+pub mod Within

@@ -1,0 +1,22 @@
+// Many plan files, each read against a sheet, with the answer and all lent tables afterwards: those of standard input, and those that the
+// program builds. The stored output is what the rules of document 01 give.
+mod bounds;
+mod case;
+mod path;
+mod tables;
+mod text;
+
+use libc::STDIN_FILENO;
+
+fn main() {
+    let mut bytes = [0u8; 65537];
+    let length = io::read_full(STDIN_FILENO, &mut bytes);
+    if 65536 < length {
+        sheet_text::print(b"too long\n");
+        return;
+    }
+    text::run(&bytes[..length]);
+    tables::run();
+    bounds::run();
+    path::run();
+}
