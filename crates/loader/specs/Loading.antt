@@ -187,16 +187,16 @@ module _ {A : Type 0} (refuse : SheetFault → A) (short : A) (long : ℕ → �
       go (bad g) q = let same : f ≡ g = cc in ap refuse same
 
   module _ (n k arcCount : ℕ) (f : JudgedGood (verdict s) n k arcCount) where
-    by-test : (b : Bool) → long n arcCount ≡ b → cond b (next n k (f .records)) short ≡ byVerdict refuse short long next (verdict s)
-    by-test b h =
+    by-lengths : (b : Bool) → long n arcCount ≡ b → cond b (next n k (f .records)) short ≡ byVerdict refuse short long next (verdict s)
+    by-lengths b h =
         sym (ap (byVerdict refuse short long next) (f .good-sheet)
         ∙ ap (λ (c : Bool). cond c (next n k (f .records)) short) (ap (long n) (f .count) ∙ h))
 
     pub by-short : long n arcCount ≡ false → short ≡ byVerdict refuse short long next (verdict s)
-    by-short = by-test false
+    by-short = by-lengths false
 
     pub by-good : long n arcCount ≡ true → next n k (f .records) ≡ byVerdict refuse short long next (verdict s)
-    by-good = by-test true
+    by-good = by-lengths true
 
 module _ (s : List ℕ) (t : Tables) where
   module _ (n k arcCount : ℕ) (e : Good n k arcCount ≡ judgedOf (verdict s)) where

@@ -50,7 +50,7 @@ module _ (n k m : ℕ) (t : Tables) (marks file : List ℕ) (ready : Ready n k m
   G = graphHeld n k m t
 
   part-size : length (take n marks) ≡ n
-  part-size = omega (arith, length-take n marks, ready .marked)
+  part-size = omega (arith, length-take n marks, ready .long .marks)
 
   -- a fault of the file by itself
   pub fault-read : (f : PlanFault) → Fault f ≡ openedOf n m file → (statedPlanFile f ≡ answerTo G file) × (marks ≡ marksAfter G file marks)
@@ -85,8 +85,8 @@ module _ (n k m : ℕ) (t : Tables) (marks file : List ℕ) (ready : Ready n k m
     -- the listed legs are in the tables and lead between the sites
     within : Within n L (t .starts) (t .ends)
     within = record {
-      in-starts = λ e i. omega (arith, listed-below e i, ready .long .starts);
-      in-ends = λ e i. omega (arith, listed-below e i, ready .long .ends);
+      in-starts = λ e i. omega (arith, listed-below e i, ready .long .tables .starts);
+      in-ends = λ e i. omega (arith, listed-below e i, ready .long .tables .ends);
       start-lt = λ e i.
           subst (λ (x : ℕ). x < n) (start-in n k m (t .starts) (t .ends) (t .weights) (t .landings) e (listed-below e i))
           (ready .sound .start-lt e (listed-below e i));
@@ -100,8 +100,8 @@ module _ (n k m : ℕ) (t : Tables) (marks file : List ℕ) (ready : Ready n k m
       root-on = omega (arith, root-below, part-size);
       whole = omega (arith, ap fileSize (fields .count-is), ok .head .size);
       within = subst (λ (x : ℕ). Within x L (t .starts) (t .ends)) (sym part-size) within;
-      below = λ i l. omega (arith, below i l, ready .long .weights);
-      landed = omega (arith, part-size, ready .long .landings);
+      below = λ i l. omega (arith, below i l, ready .long .tables .weights);
+      landed = omega (arith, part-size, ready .long .tables .landings);
       terminals = ready .terminals;
     }
 

@@ -4,12 +4,12 @@
 -- Assumes nothing.
 use Prim.Native.Nat.{ℕ, _<_}
 use mathlib.Core.Path.{_≡_, refl, sym, ap, _∙_, subst}
-use mathlib.Core.Bool.{Bool, true, false, _&&_}
+use mathlib.Core.Bool.{Bool, true, false}
 use mathlib.Core.Option.{Option, none, some}
 use mathlib.Core.List.{List}
 use native.Mathlib.Omega.{arith}
 use borrow.Author.Tests.{eqb-true, eq-eqb}
-use lib.Dec.{T, leb, eqb}
+use lib.Dec.{T, eqb}
 use lib.ListN.{length}
 use Rattle.lists.specs.Every.{Every}
 use Rattle.lists.specs.Listed.{listed, listed-every, every-listed}
@@ -28,16 +28,15 @@ use Rattle.sheet.specs.Arcs.{arcs}
 use Rattle.sheet.specs.Fields.{Bytes}
 use Rattle.sheet.specs.Verdict.{Verdict, good, bad, verdict}
 use Rattle.sheet.specs.declared.record.Record.{Record}
-use Rattle.loader.specs.Tables.{areLong}
 use Rattle.network.specs.Network.{graphOf}
 use Rattle.planfile.specs.Format.{rootIn, totalIn, countIn, listedArc, arcsIn}
 use Rattle.planfile.specs.Encoded.{WellFormed, FieldsAre, fields-encoding, encoding-fields}
 use Rattle.mission.specs.Runs.{ReaderTables, ReaderLong, Run, run}
 use Rattle.mission.specs.PointTwo.{EncodesPlan, AcceptsPlans, ReaderPointTwo}
-use Rattle.plan_reader.specs.Reader.{fileFault, orElse, planFault, treeFault, answered, answerTo, readingOf}
+use Rattle.plan_reader.specs.Reader.{fileFault, orElse, planFault, treeFault, answered, answerTo, allLong, readingOf}
 use Rattle.plan_reader.specs.Faults.{some-fault, FileOk, file-passes, file-passed, listed-on, failed-none, none-failed}
 use Rattle.plan_reader.specs.Returned.{FieldsOf}
-use Rattle.plan_reader.specs.Rules.{sheet-refused, by-lengths, tested-long, file-read}
+use Rattle.plan_reader.specs.Rules.{test-long, sheet-refused, test-failed, file-read}
 
 -- ---- the answer
 
@@ -151,16 +150,15 @@ pub record Accepting (sheet : List ℕ) (t : ReaderTables) : Type 0 where
 pub accepted-good : (sheet file : List ℕ) (t : ReaderTables) (root cost count : ℕ) → readingOf sheet file t .answer ≡ plan root cost count → Accepting sheet t
 accepted-good sheet file t root cost count e = go (verdict sheet) refl
   where
-    refused-at : {answer : Stated} → readingOf sheet file t .answer ≡ answer → answer ≡ plan root cost count
-    refused-at q = sym q ∙ e
+    answered-so : {answer : Stated} → readingOf sheet file t .answer ≡ answer → answer ≡ plan root cost count
+    answered-so q = sym q ∙ e
 
     go : (v : Verdict) → verdict sheet ≡ v → Accepting sheet t
-    go (bad f) q = absurd (refusal-no-plan (Sheet f) root cost count (refused-at (ap (λ (r : Run ReaderTables). r .answer) (sheet-refused sheet file t f q))))
-    go (good n k records) q = tested (areLong n (length (arcs records)) (t .tables) && leb n (length (t .marks))) refl
+    go (bad f) q = absurd (refusal-no-plan (Sheet f) root cost count (answered-so (ap (λ (r : Run ReaderTables). r .answer) (sheet-refused sheet file t f q))))
+    go (good n k records) q = tested (allLong n (length (arcs records)) t) refl
       where
-        tested : (b : Bool) → (areLong n (length (arcs records)) (t .tables) && leb n (length (t .marks))) ≡ b → Accepting sheet t
-        tested true h =
-            record { n = n; k = k; records = records; good-sheet = q; long = tested-long sheet file t n k records q h }
+        tested : (b : Bool) → allLong n (length (arcs records)) t ≡ b → Accepting sheet t
+        tested true h = record { n = n; k = k; records = records; good-sheet = q; long = test-long n (length (arcs records)) t h }
         tested false h =
             absurd (refusal-no-plan (Tables ShortTables) root cost count
-            (refused-at (ap (λ (r : Run ReaderTables). r .answer) (by-lengths sheet file t n k records q false h))))
+            (answered-so (ap (λ (r : Run ReaderTables). r .answer) (test-failed sheet file t n k records q h))))

@@ -123,6 +123,10 @@ readAgainst n k records file t =
     run (answerTo (graphOf n k records) file)
     (readerTables (loaded n records (t .tables)) (marksAfter (graphOf n k records) file (t .marks)))
 
+-- the needed tables are long enough for n sites and m legs, as a test: `ReaderLong` of crate mission
+abbrev pub allLong : ℕ → ℕ → ReaderTables → Bool
+allLong n m t = areLong n m (t .tables) && leb n (length (t .marks))
+
 -- by the verdict: the sheet's refusal; 11, where the lengths fail this test; or the file is read against the sheet. "1 to 11 touch nothing".
 -- Rules.antt has the cases, one law each.
 abbrev pub readingOf : (sheet file : List ℕ) → ReaderTables → Run ReaderTables
@@ -130,6 +134,6 @@ readingOf sheet file t =
     byVerdict
     (λ fault. run (statedSheet fault) t)
     (run (refused ofTables shortTables 0) t)
-    (λ n m. areLong n m (t .tables) && leb n (length (t .marks)))
+    (λ n m. allLong n m t)
     (λ n k records. readAgainst n k records file t)
     (verdict sheet)

@@ -2,14 +2,13 @@
 -- Assumes nothing.
 use Prim.Native.Nat.{ℕ, _≤_}
 use mathlib.Core.List.{List}
-use lib.ListN.{length}
 use Rattle.limits.specs.Limits.{maxTerminals}
 use Rattle.graph.specs.Graph.{Sound}
-use Rattle.loader.specs.Tables.{Tables, Long}
+use Rattle.loader.specs.Tables.{Tables}
 use Rattle.network.specs.Network.{graphHeld}
+use Rattle.mission.specs.Runs.{readerTables, ReaderLong}
 
 pub record Ready (n k m : ℕ) (t : Tables) (marks : List ℕ) : Type 0 where
   pub sound : Sound (graphHeld n k m t)
   pub terminals : k ≤ maxTerminals
-  pub long : Long n m t
-  pub marked : n ≤ length marks
+  pub long : ReaderLong n m (readerTables t marks)

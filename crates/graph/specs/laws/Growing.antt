@@ -11,7 +11,7 @@ use native.Mathlib.Omega.{arith}
 use lib.ListN.{length}
 use lib.Dec.{T, eqb, eqb-refl}
 use Rattle.lists.specs.Tests.{by-fact, eq-fact, fact-true, true-fact, false-not-fact, and-left, and-right}
-use Rattle.lists.specs.Count.{bit, bit-passed, count}
+use Rattle.lists.specs.Count.{bit, bit-le, bit-passed, count}
 use Rattle.lists.specs.Listed.{listed, listed-head, listed-same, listed-tail, listed-cases, listed-count, count-listed}
 use Rattle.lists.specs.Sums.{sumBy, sum-lt, sum-at-most, sum-entry, count-sum, Same}
 use Rattle.lists.specs.Remaining.{remaining, sum-remaining}
@@ -53,8 +53,7 @@ unheldEnds G H L = sumBy (unheld G H) L
 
 unheld-length : (G : Graph) (H L : List ℕ) → unheldEnds G H L ≤ length L
 unheld-length G H L =
-    let each : (e : ℕ) → unheld G H e ≤ 1 = λ e. by-fact (listed (G .end e) H) (λ b. bit (not b) ≤ 1) (λ _. omega arith) (λ _. omega arith) in
-    omega (arith, sum-at-most (unheld G H) 1 L (λ e _. each e))
+    omega (arith, sum-at-most (unheld G H) 1 L (λ e _. bit-le (not (listed (G .end e) H))))
 
 unheld-falls : (G : Graph) (H L : List ℕ) (e : ℕ) → IsExtending G H L (some e) → unheldEnds G (G .end e ∷ H) L < unheldEnds G H L
 unheld-falls G H L e s =

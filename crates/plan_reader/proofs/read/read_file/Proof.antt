@@ -24,7 +24,7 @@ slice-relend-prefix-read-arcs c = search needs
 
 slice-aggregate-read-arcs : tie.Need-slice-aggregate-read-arcs
 slice-aggregate-read-arcs c =
-    omega (arith, length-take (c .before .before .before .before .before .before .before .before .before .before .before .args .n) (now (c .before .before .before .before .before .before .before .before .before .before .before .args .marks)), c .before .before .before .before .before .before .before .before .before .before .before .pre .marked)
+    omega (arith, length-take (c .before .before .before .before .before .before .before .before .before .before .before .args .n) (now (c .before .before .before .before .before .before .before .before .before .before .before .args .marks)), c .before .before .before .before .before .before .before .before .before .before .before .pre .long .marks)
 
 read-arcs-requires : tie.Need-read-arcs-requires
 read-arcs-requires c κs =
