@@ -40,11 +40,12 @@ use Rattle.graph.specs.laws.UpperBound.{attain}
 use Rattle.graph.specs.laws.LeastMeaning.{least-total, least-bound, room-charge}
 use Rattle.graph.specs.laws.CostTable.{both-cost-table, cost-table-capped, cost-table-closed, cost-table-supported}
 use Rattle.graph.specs.laws.LayoutRule.{arc-falls, follow-enough, layout-enough, layout-nothing, layout-arc, layout-split}
-use Rattle.graph.specs.laws.LayoutTotal.{layout-subtree, step-passes, split-measure}
+use Rattle.graph.specs.laws.LayoutTotal.{layout-subtree, step-passes, arc-found, part-found, split-measure}
+use Rattle.graph.specs.laws.SameCells.{same-layout as layouts-agree, same-root as roots-agree}
 use Rattle.graph.specs.laws.Lowering.{unfilled-supported, lower-supported, lower-capped, sum-falls}
 use Rattle.graph.specs.laws.Settling.{splits-start, started-lower, arcs-close, closed-kept}
 use Rattle.graph.specs.laws.Finite.{cell-finite, full-finite, full-none}
-use Rattle.graph.specs.laws.Roots.{root-facts, no-root, root-lower}
+use Rattle.graph.specs.laws.Roots.{root-facts, cheapest-first, no-root, root-lower}
 use Rattle.graph.specs.laws.UniquePaths.{subtree-one-path, one-path-subtree, subtree-distinct, subtree-no-loop, touched-held}
 
 -- ==== Tests, and definitions with a number of turns
@@ -218,6 +219,22 @@ module _ (G : Graph) (sound : Sound G) (top : ℕ) (room : Room G top) (c : ℕ 
       → (c v y + ones y < c v w + ones w) × (c v (w - y) + ones (w - y) < c v w + ones w)
   splitting-falls = split-measure G sound c top closed supported charges
 
+  -- the arc that is followed is one of the graph and leads to a finite cell
+  pub following-leads : (v w e : ℕ) → first (fits G c top v w) (G .arcs) ≡ some e → (e < G .arcs) × (c (G .end e) w < top)
+  following-leads v w e q = let (on, _, finite, _) = arc-found G sound c top closed supported charges v w e q in (on, finite)
+
+  -- a split leads to parts of the set whose cells are not above the set's
+  pub splitting-leads : (v w y : ℕ) → v < G .nodes → w < 2 ^ G .terminals → first (splits G c v w) w ≡ some y
+      → (y < w) × Part y w × (c v y ≤ c v w) × (c v (w - y) ≤ c v w)
+  splitting-leads v w y on small q =
+      let (_, less, part, one, other, _) = part-found G sound c top closed supported charges v w y on small q in
+      (less, part, one, other)
+
+-- two cell functions that agree on the nodes and sets of the graph have the same layout
+pub same-layout : (G : Graph) → Sound G → (c d : ℕ → ℕ → ℕ) (top : ℕ) → ((v w : ℕ) → v < G .nodes → w < 2 ^ G .terminals → c v w ≡ d v w)
+    → (v w : ℕ) → v < G .nodes → w < 2 ^ G .terminals → layout G c top v w ≡ layout G d top v w
+same-layout G sound c d top same = layouts-agree G c d same sound top
+
 -- ==== 5. What a search needs
 
 -- a table in which only the empty set has finite cells is supported
@@ -322,6 +339,10 @@ subtree-touches = touched-held
 pub root-rule : (G : Graph) (c : ℕ → ℕ → ℕ) (v : ℕ) → rootOf G c ≡ some v → LowestCheapest G (λ u. c u (full (G .terminals))) v
 root-rule = root-facts
 
+-- and such a node is the one that it names
+pub rule-root : (G : Graph) (c : ℕ → ℕ → ℕ) (v : ℕ) → LowestCheapest G (λ u. c u (full (G .terminals))) v → rootOf G c ≡ some v
+rule-root G c = cheapest-first G (λ u. c u (full (G .terminals)))
+
 -- it names no node only where no node may be a root
 pub root-none : (G : Graph) (c : ℕ → ℕ → ℕ) → rootOf G c ≡ none → (u : ℕ) → u < G .nodes → T (not (G .mayRoot u))
 root-none = no-root
@@ -331,3 +352,7 @@ pub root-least : (G : Graph) (c : ℕ → ℕ → ℕ) (top : ℕ) → 1 ≤ G .
     → (r : ℕ) (L : List ℕ) → T (G .mayRoot r) → Subtree G r L → Covers G r L (full (G .terminals)) → c v (full (G .terminals)) ≤ total G r L
 root-least G c top some-terminal table v q =
     root-lower G top c table (full (G .terminals)) v (full-ne (G .terminals) some-terminal) (ones-lt (G .terminals)) (root-facts G c v q)
+
+-- two cell functions that agree on the nodes and sets of the graph have the same root
+pub same-root : (G : Graph) (c d : ℕ → ℕ → ℕ) → ((v w : ℕ) → v < G .nodes → w < 2 ^ G .terminals → c v w ≡ d v w) → rootOf G c ≡ rootOf G d
+same-root = roots-agree

@@ -31,3 +31,5 @@ pub mod CostTable
 -- the layout
 pub mod LayoutRule
 pub mod LayoutTotal
+-- cell functions that agree on the graph
+pub mod SameCells

@@ -1,8 +1,8 @@
 -- Tests over the entries of a list and over the numbers below n: all pass, some passes; and the lowest number below n that passes. What each
--- says, and when it passes.
+-- says, and when it passes. Tests that agree give the same.
 -- Assumes nothing.
 use Prim.Native.Nat.{ℕ, zero, suc, _<_}
-use mathlib.Core.Path.{_≡_, refl, sym, ap, _∙_, subst}
+use mathlib.Core.Path.{_≡_, refl, sym, ap, ap₂, _∙_, subst}
 use mathlib.Core.Logic.{⊎-elim}
 use mathlib.Core.Bool.{Bool, true, false, not, _&&_, _||_}
 use mathlib.Core.Option.{Option, none, some}
@@ -135,3 +135,14 @@ first-none f n h = go (first f n) (first-is-first f n)
     go : (o : Option ℕ) → IsFirst f n o → o ≡ none
     go none s = refl
     go (some j) s = absurd (not-both (f j) (s .1) (h j (s .0)))
+
+-- ---- tests that agree below n
+
+pub all-same : (f g : ℕ → Bool) (n : ℕ) → ((i : ℕ) → i < n → f i ≡ g i) → allTo f n ≡ allTo g n
+all-same f g zero same = refl
+all-same f g (suc n) same = ap₂ _&&_ (same n (omega arith)) (all-same f g n (λ i l. same i (omega arith)))
+
+pub first-same : (f g : ℕ → Bool) (n : ℕ) → ((i : ℕ) → i < n → f i ≡ g i) → first f n ≡ first g n
+first-same f g zero same = refl
+first-same f g (suc n) same =
+    ap₂ (λ (o : Option ℕ) (b : Bool). foundOr o b n) (first-same f g n (λ i l. same i (omega arith))) (same n (omega arith))

@@ -25,4 +25,5 @@ pub mod Rising
 pub mod Joined
 pub mod Over
 pub mod Stores
+pub mod Values
 pub mod Rest

@@ -27,6 +27,12 @@ pub length-numbers : (a n : ℕ) → length (numbers a n) ≡ n
 length-numbers a zero = refl
 length-numbers a (suc n) = ap suc (length-numbers (suc a) n)
 
+-- entry i is a + i
+pub getD-number : (a n i d : ℕ) → i < n → getD (numbers a n) i d ≡ a + i
+getD-number a zero i d h = absurd (not-suc-le-zero h)
+getD-number a (suc n) zero d h = omega arith
+getD-number a (suc n) (suc i) d h = getD-number (suc a) n i d (le-of-suc-le-suc h) ∙ omega arith
+
 -- one number more, at the end
 pub numbers-more : (a n : ℕ) → numbers a (suc n) ≡ numbers a n ++ ((a + n) ∷ [])
 numbers-more a zero = ap (λ (x : ℕ). x ∷ []) (omega arith)

@@ -2,7 +2,7 @@
 -- together by and, or, not; the tests of an equation and of an order; a choice by a test.
 -- Assumes nothing.
 use Prim.Native.Nat.{ℕ, suc, _<_}
-use mathlib.Core.Path.{_≡_, refl, sym, subst}
+use mathlib.Core.Path.{_≡_, refl, sym, ap, subst}
 use mathlib.Core.Logic.{_≢_, _⊎_, inl, inr}
 use mathlib.Core.Bool.{Bool, true, false, not, _&&_, _||_, cond}
 use mathlib.Core.Option.{none, some, Option·some-injective, Option·none-ne-some}
@@ -71,6 +71,13 @@ both-true a b e = (fact-true (and-left a b (true-fact e)), fact-true (and-right 
 pub and-not : (a b : Bool) → T (not b) → T (not (a && b))
 and-not true b t = t
 and-not false b t = tt
+
+-- where the first test is known, both together are known or are the second
+pub and-fails : (a b : Bool) → a ≡ false → (a && b) ≡ false
+and-fails a b e = ap (λ (x : Bool). x && b) e
+
+pub and-passes : (a b : Bool) → a ≡ true → (a && b) ≡ b
+and-passes a b e = ap (λ (x : Bool). x && b) e
 
 pub or-cases : (a b : Bool) → T (a || b) → T a ⊎ T b
 or-cases true b t = inl tt

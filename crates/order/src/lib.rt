@@ -5,12 +5,12 @@ ghost use Prim.Native.Nat.{_<_};
 ghost use Rattle.limits.specs.Limits.{maxSubsets};
 ghost use Rattle.order.specs.Order.{inOrder};
 
-mod table;
+mod entries;
 
 // The subset at a position of the order.
 pub fn at(position: usize) -> Subset
     requires { ⌜ position < maxSubsets ⌝ }
     ensures { λ r. ⌜ r .0 ≡ inOrder position ⌝ }
 {
-    Subset(table::ORDER[position])
+    Subset(entries::ORDER[position])
 }

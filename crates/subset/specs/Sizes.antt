@@ -1,14 +1,15 @@
--- Sizes: the number of ones of a set, of a part of it and of the rest.
+-- Sizes: the number of ones of a set, of a part of it and of the rest. A set of size 1.
 -- The library has two of the laws: lib.Count.ones-ones (the size of `full k` is k) and ones-le (a set below 2^k has a size of at most k).
 -- Assumes nothing.
-use Prim.Native.Nat.{ℕ, zero, suc, _+_, _-_, _/_, _^_, _≤_, _<_}
-use mathlib.Core.Path.{_≡_, refl, sym, ap, _∙_}
+use Prim.Native.Nat.{ℕ, zero, suc, _+_, _-_, _/_, _%_, _^_, _≤_, _<_}
+use mathlib.Core.Path.{_≡_, refl, sym, ap, _∙_, subst}
 use native.Mathlib.Omega.{arith}
 use lib.Arith.{bin-ind}
 use lib.Bits.{and-step, and-le-l, and-zero-r}
 use lib.Count.{ones, ones-step, ones-ones}
-use Rattle.subset.specs.Sets.{empty, single, Part}
-use Rattle.subset.specs.Terminals.{single-half, single-even}
+use lib.Dec.{T, eqb-refl}
+use Rattle.subset.specs.Sets.{empty, single, has, Part}
+use Rattle.subset.specs.Terminals.{single-half, single-even, has-single}
 use Rattle.subset.specs.Parts.{part-le}
 
 pub ones-empty : ones empty ≡ 0
@@ -57,3 +58,24 @@ proper-part-size w y p l = omega (arith, ones-part w y p, ones-pos (w - y) (omeg
 
 pub rest-size : (w y : ℕ) → Part y w → 0 < y → ones (w - y) < ones w
 rest-size w y p l = omega (arith, ones-part w y p, ones-pos y l)
+
+-- ---- a set of one terminal
+
+is-single : (w : ℕ) → ones w ≡ 1 → (i : ℕ) × (w ≡ single i)
+is-single = bin-ind (λ (w : ℕ). ones w ≡ 1 → (i : ℕ) × (w ≡ single i)) (λ h. absurd (omega (arith, ones-empty))) step
+  where
+    twice : (w i : ℕ) → w % 2 ≡ 0 → w / 2 ≡ single i → (j : ℕ) × (w ≡ single j)
+    twice w i q f = let f' : w / 2 ≡ 2 ^ i = f in let g : w ≡ 2 ^ suc i = omega (arith, single-half i, single-even i) in (suc i, g)
+
+    half : (w : ℕ) → (ones (w / 2) ≡ 1 → (i : ℕ) × (w / 2 ≡ single i)) → ones w ≡ 1 → (d : ℕ) → w % 2 ≡ d → (h : ℕ) → w / 2 ≡ h → (i : ℕ) × (w ≡ single i)
+    half w ih e zero q h r = let o : ones (w / 2) ≡ 1 = omega (arith, ones-step w) in twice w (ih o .0) (omega arith) (ih o .1)
+    half w ih e (suc d) q zero r = (0, omega arith)
+    half w ih e (suc d) q (suc h) r = absurd (omega (arith, ones-step w, ones-pos (w / 2) (omega arith)))
+
+    step : (w : ℕ) → (ones (w / 2) ≡ 1 → (i : ℕ) × (w / 2 ≡ single i)) → ones w ≡ 1 → (i : ℕ) × (w ≡ single i)
+    step w ih e = half w ih e (w % 2) refl (w / 2) refl
+
+-- it is that terminal's
+pub one-terminal : (w : ℕ) → ones w ≡ 1 → (i : ℕ) × (w ≡ single i) × T (has w i)
+one-terminal w one =
+    let (i, e) = is-single w one in (i, e, subst (λ (x : ℕ). T (has x i)) (sym e) (subst T (sym (has-single i i)) (eqb-refl i)))

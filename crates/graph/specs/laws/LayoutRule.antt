@@ -69,7 +69,7 @@ facts-done G v w (inr (i, l, q, t)) =
 -- ---- one step
 
 -- two steps by the same tests and searches are equal where they do the same with what is found
-step-same : (done : Bool) (arc part : Option ℕ) (f g s t : ℕ → List ℕ)
+pub step-same : (done : Bool) (arc part : Option ℕ) (f g s t : ℕ → List ℕ)
     → ((e : ℕ) → arc ≡ some e → f e ≡ g e) → ((y : ℕ) → part ≡ some y → s y ≡ t y) → step done arc part f s ≡ step done arc part g t
 step-same true arc part f g s t by-arc by-part = refl
 step-same false (some e) part f g s t by-arc by-part = by-arc e refl

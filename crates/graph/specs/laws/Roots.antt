@@ -11,7 +11,7 @@ use native.Mathlib.Omega.{arith}
 use lib.Dec.{T, leb, leb→le, le→leb, ltb, ltb→lt, nltb→le}
 use Rattle.lists.specs.Tests.{by-fact, not-both, and-left, and-right, and-both, or-cases}
 use Rattle.lists.specs.Least.{LeastPassing, least-passing}
-use Rattle.lists.specs.Find.{allTo, all-at, all-of, first, first-says}
+use Rattle.lists.specs.Find.{allTo, all-at, all-of, first, first-found, first-says}
 use Rattle.subset.specs.Sets.{full}
 use Rattle.graph.specs.Graph.{Graph}
 use Rattle.graph.specs.Subtrees.{Subtree, Covers, total}
@@ -52,6 +52,15 @@ module _ (G : Graph) (f : ℕ → ℕ) where
             let also : T (isCheapest G f u) = facts-cheapest u mu (λ x lx mx. omega (arith, nltb→le (f v) (f u) s, cheapest x lx mx)) in
             absurd (not-both (isCheapest G f u) also (before u lu)));
       }
+
+  -- and it finds the lowest of the cheapest nodes
+  pub cheapest-first : (v : ℕ) → LowestCheapest G f v → first (isCheapest G f) (G .nodes) ≡ some v
+  cheapest-first v root = first-found (isCheapest G f) (G .nodes) v (root .node) (facts-cheapest v (root .may) (root .cheapest)) (λ u l.
+      by-fact (isCheapest G f u) (λ b. T (not b))
+      (λ t.
+      let (may, cheapest) = cheapest-facts u t in
+      absurd (omega (arith, root .lowest u l may, cheapest v (root .node) (root .may))))
+      (λ t. tt))
 
 -- what the root rule says
 pub root-facts : (G : Graph) (c : ℕ → ℕ → ℕ) (v : ℕ) → rootOf G c ≡ some v → LowestCheapest G (λ u. c u (full (G .terminals))) v
