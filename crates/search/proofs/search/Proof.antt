@@ -1,0 +1,102 @@
+-- `search::search` meets its contract.
+-- Assumes nothing.
+use borrow.Author.Needs.{needs}
+use mathlib.Core.Path.{sym}
+use native.Mathlib.Omega.{arith}
+use lib.Seq.{length-take-le}
+use denote.Ref.{now}
+use borrow.Author.Needs.{needs}
+use Rattle.search.specs.Whole.{total-fits, total-long, fill-asked, cells-over, marks-over}
+use Rattle.search.proofs.search.Statement.{statement}
+use Rattle.search.proofs.search.Tie as tie
+use Rattle.search.proofs.search.Reads as reads
+use Rattle.search.proofs.search.Lts as lts
+use Rattle.search.proofs.fill.Reads as fill-reads
+use Rattle.search.proofs.mark_all.Reads as mark-all-reads
+use Rattle.search.proofs.sets.take_order.Reads as take-order-reads
+use Rattle.table.proofs.sets_of.Reads as sets-of-reads
+
+-- src/lib.rt:118:25
+sets-of-requires : tie.Need-sets-of-requires
+sets-of-requires c κs = search needs
+
+-- src/lib.rt:118:17
+mul-total : tie.Need-mul-total
+mul-total c = omega (arith, total-fits (c .before .before .before .before .before .before .before .pre .0) (c .sets-of .ensures))
+
+-- src/lib.rt:120:16
+slice-aggregate-take-order : tie.Need-slice-aggregate-take-order
+slice-aggregate-take-order c = search needs
+
+-- src/lib.rt:120:5
+take-order-requires : tie.Need-take-order-requires
+take-order-requires c κs = search needs
+
+-- src/lib.rt:127:9
+slice-aggregate-fill : tie.Need-slice-aggregate-fill
+slice-aggregate-fill c = search needs
+
+-- src/lib.rt:130:9
+slice-relend-prefix-fill : tie.Need-slice-relend-prefix-fill
+slice-relend-prefix-fill c = total-long (c .before .before .before .before .before .before .before .before .before .before .before .pre .0) (c .before .before .before .before .sets-of .ensures) (c .before .before .before .before .before .before .before .before .before .before .before .pre .1)
+
+-- src/lib.rt:130:9
+slice-aggregate-fill-2 : tie.Need-slice-aggregate-fill-2
+slice-aggregate-fill-2 c = sym (length-take-le _ _ (total-long (c .before .before .before .before .before .before .before .before .before .before .before .before .pre .0) (c .before .before .before .before .before .sets-of .ensures) (c .before .before .before .before .before .before .before .before .before .before .before .before .pre .1)))
+
+-- src/lib.rt:131:9
+array-borrow-prefix-column : tie.Need-array-borrow-prefix-column
+array-borrow-prefix-column c = search needs
+
+-- src/lib.rt:131:9
+slice-aggregate-fill-3 : tie.Need-slice-aggregate-fill-3
+slice-aggregate-fill-3 c = sym (length-take-le _ _ (omega (arith, c .before .before .before .before .before .before .before .before .before .before .before .before .before .pre .0 .few-nodes)))
+
+-- src/lib.rt:122:5
+fill-requires : tie.Need-fill-requires
+fill-requires c κs = fill-asked (c .before .before .before .before .before .before .before .before .before .before .before .before .before .pre .0) (c .before .before .before .before .before .before .sets-of .ensures) (now (c .before .before .before .before .before .before .before .before .before .before .before .before .before .args .cells)) _ (c .before .before .before .before .before .before .before .before .before .before .before .before .before .pre .1) (omega (arith, c .before .before .before .before .before .before .before .before .before .before .before .before .before .pre .0 .few-nodes)) (c .before .before .before .before .take-order .ensures)
+
+-- src/lib.rt:133:14
+slice-relend-prefix-mark-all : tie.Need-slice-relend-prefix-mark-all
+slice-relend-prefix-mark-all c = search needs
+
+-- src/lib.rt:133:14
+slice-aggregate-mark-all : tie.Need-slice-aggregate-mark-all
+slice-aggregate-mark-all c = sym (length-take-le _ _ (c .before .before .before .before .before .before .before .before .before .before .before .before .before .before .before .before .before .before .pre .2))
+
+-- src/lib.rt:133:5
+mark-all-requires : tie.Need-mark-all-requires
+mark-all-requires c κs = search needs
+
+-- src/lib.rt:100:1
+same-length : tie.Need-same-length
+same-length c = search needs
+
+-- src/lib.rt:100:1
+same-length-2 : tie.Need-same-length-2
+same-length-2 c = search needs
+
+-- src/lib.rt:100:1
+returns : tie.Need-returns
+returns c = (cells-over (c .before .before .before .before .before .before .before .before .before .before .before .before .before .before .before .before .before .before .before .before .before .pre .0) (c .before .before .before .before .before .before .before .before .before .before .before .before .before .before .sets-of .ensures) (now (c .before .before .before .before .before .before .before .before .before .before .before .before .before .before .before .before .before .before .before .before .before .args .cells)) _ _ (omega (arith, c .before .before .before .before .before .before .before .before .before .before .before .before .before .before .before .before .before .before .before .before .before .pre .0 .few-nodes)) (c .before .before .before .before .before .before .before .fill .ensures), marks-over _ (now (c .before .before .before .before .before .before .before .before .before .before .before .before .before .before .before .before .before .before .before .before .before .args .marks)) _ (c .before .before .before .before .before .before .before .before .before .before .before .before .before .before .before .before .before .before .before .before .before .pre .2) (c .before .before .mark-all .ensures))
+
+pub search-spec : {M : Type 1} → statement M
+search-spec =
+    tie.close
+    (tie.spec
+    sets-of-requires
+    mul-total
+    slice-aggregate-take-order
+    take-order-requires
+    slice-aggregate-fill
+    slice-relend-prefix-fill
+    slice-aggregate-fill-2
+    array-borrow-prefix-column
+    slice-aggregate-fill-3
+    fill-requires
+    slice-relend-prefix-mark-all
+    slice-aggregate-mark-all
+    mark-all-requires
+    same-length
+    same-length-2
+    returns)

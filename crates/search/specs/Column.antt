@@ -1,0 +1,217 @@
+-- The cells of one set, one for each node, as a list: what a pass over the arcs does to them, and what passes until one lowers nothing do.
+-- Assumes nothing.
+use Prim.Native.Nat.{ℕ, _+_, _≤_, _<_}
+use mathlib.Core.Path.{_≡_, refl, sym, ap, _∙_, subst, subst₂}
+use mathlib.Core.Logic.{_≢_, _⊎_, inl, inr}
+use mathlib.Core.Bool.{Bool, true, false, true≢false, false≢true}
+use mathlib.Core.List.{List}
+use native.Mathlib.Omega.{arith}
+use native.Mathlib.Decide.{ℕ-discrete}
+use lib.ListN.{length, getD, set, length-set}
+use lib.Seq.{getD-set-same, getD-set-other, set-getD}
+use Rattle.limits.specs.Limits.{maxNodes, maxWeight}
+use Rattle.lists.specs.Below.{below-more}
+use Rattle.lists.specs.Sums.{sumTo, sumTo-lt}
+use Rattle.search.specs.Filling.{ArcFrom, ClosedOver}
+use Rattle.search.specs.WorkingNone.{workingNone}
+
+-- the entries of a list, as a function of their places
+abbrev pub entry : List ℕ → ℕ → ℕ
+entry l i = getD l i 0
+
+-- m arcs between n nodes, in tables that are long enough
+pub record ArcTables (n m : ℕ) (starts ends weights : List ℕ) : Type 0 where
+  pub few : n ≤ maxNodes
+  pub starts-long : m ≤ length starts
+  pub ends-long : m ≤ length ends
+  pub weights-long : m ≤ length weights
+  pub start-lt : (e : ℕ) → e < m → entry starts e < n
+  pub end-lt : (e : ℕ) → e < m → entry ends e < n
+  pub weight-le : (e : ℕ) → e < m → entry weights e ≤ maxWeight
+
+-- no entry is above "none"
+abbrev pub AllLow : List ℕ → Type 0
+AllLow l = (i : ℕ) → i < length l → entry l i ≤ workingNone
+
+module _ (m : ℕ) (starts ends weights : List ℕ) where
+  -- a pass over the arcs below e, from `before`; whether it lowered a cell
+  pub record Passed (before after : List ℕ) (e : ℕ) (lowered : Bool) : Type 0 where
+    pub same-length : length after ≡ length before
+    pub low : (v : ℕ) → entry after v ≤ entry before v
+    pub from : (v : ℕ) → (entry after v ≡ entry before v) ⊎ ArcFrom m (entry starts) (entry ends) (entry weights) (entry after) v
+    pub unchanged : lowered ≡ false → (after ≡ before) × ((d : ℕ) → d < e → entry after (entry starts d) ≤ entry weights d + entry after (entry ends d))
+    pub falls : lowered ≡ true → sumTo (length before) (entry after) < sumTo (length before) (entry before)
+
+  -- passes, until one lowers nothing
+  pub record Settled (before after : List ℕ) : Type 0 where
+    pub same-length : length after ≡ length before
+    pub over : (n : ℕ) → ClosedOver n m (entry starts) (entry ends) (entry weights) (entry before) (entry after)
+
+-- ---- one pass
+
+module _ {m : ℕ} {starts ends weights before : List ℕ} where
+  pub passed-none : Passed m starts ends weights before before 0 false
+  passed-none = record {
+    same-length = refl;
+    low = λ v. omega arith;
+    from = λ v. inl refl;
+    unchanged = λ _. (refl, λ d l. absurd (omega arith));
+    falls = λ q. absurd (false≢true q);
+  }
+
+  module _ {mid : List ℕ} {e : ℕ} {lowered : Bool} (A : ArcTables (length before) m starts ends weights) (l : e < m)
+      (P : Passed m starts ends weights before mid e lowered) where
+    -- the arc gives less: the cell of its start is lowered
+    passed-lower : (x : ℕ) → x ≡ entry mid (entry ends e) + entry weights e → x < entry mid (entry starts e)
+        → Passed m starts ends weights before (set mid (entry starts e) x) (e + 1) true
+    passed-lower x is less = record {
+      same-length = length-set mid (entry starts e) x ∙ P .same-length;
+      low = λ v. omega (arith, le v, P .low v);
+      from = λ v. by-node v (ℕ-discrete v (entry starts e));
+      unchanged = λ q. absurd (true≢false q);
+      falls = λ _. fall lowered refl;
+    }
+      where
+        a : ℕ
+        a = entry starts e
+
+        on : entry starts e < length mid
+        on = omega (arith, A .start-lt e l, P .same-length)
+
+        here : entry (set mid (entry starts e) x) (entry starts e) ≡ x
+        here = getD-set-same mid (entry starts e) x 0 on
+
+        there : (v : ℕ) → v ≢ entry starts e → entry (set mid (entry starts e) x) v ≡ entry mid v
+        there v ne = getD-set-other mid (entry starts e) v x 0 ne
+
+        le : (v : ℕ) → entry (set mid (entry starts e) x) v ≤ entry mid v
+        le v = go (ℕ-discrete v (entry starts e))
+          where
+            go : Dec (v ≡ entry starts e) → entry (set mid (entry starts e) x) v ≤ entry mid v
+            go (yes q) = omega (arith, ap (entry (set mid (entry starts e) x)) q, here, ap (entry mid) q)
+            go (no ne) = omega (arith, there v ne)
+
+        by-node : (v : ℕ) → Dec (v ≡ entry starts e)
+            → (entry (set mid (entry starts e) x) v ≡ entry before v)
+            ⊎ ArcFrom m (entry starts) (entry ends) (entry weights) (entry (set mid (entry starts e) x)) v
+        by-node v (yes q) = inr (record {
+          arc = e;
+          on-graph = l;
+          from = sym q;
+          gives = omega (arith, le (entry ends e), ap (entry (set mid (entry starts e) x)) q, here);
+        })
+        by-node v (no ne) = go (P .from v)
+          where
+            go : (entry mid v ≡ entry before v) ⊎ ArcFrom m (entry starts) (entry ends) (entry weights) (entry mid) v
+                → (entry (set mid (entry starts e) x) v ≡ entry before v)
+                ⊎ ArcFrom m (entry starts) (entry ends) (entry weights) (entry (set mid (entry starts e) x)) v
+            go (inl q) = inl (there v ne ∙ q)
+            go (inr h) = inr (record {
+              arc = h .arc;
+              on-graph = h .on-graph;
+              from = h .from;
+              gives = omega (arith, h .gives, le (entry ends (h .arc)), there v ne);
+            })
+
+        less-sum : sumTo (length before) (entry (set mid (entry starts e) x)) < sumTo (length before) (entry mid)
+        less-sum =
+            sumTo-lt (length before) (entry starts e) (entry (set mid (entry starts e) x)) (entry mid) (λ v _. le v) (A .start-lt e l) (omega (arith, here))
+
+        fall : (b : Bool) → lowered ≡ b → sumTo (length before) (entry (set mid (entry starts e) x)) < sumTo (length before) (entry before)
+        fall true q = omega (arith, less-sum, P .falls q)
+        fall false q = omega (arith, less-sum, ap (λ (k : List ℕ). sumTo (length before) (entry k)) (P .unchanged q .0))
+
+    -- it does not: the cell stays
+    passed-keep : entry mid (entry starts e) ≤ entry mid (entry ends e) + entry weights e → Passed m starts ends weights before mid (e + 1) lowered
+    passed-keep stays = record {
+      same-length = P .same-length;
+      low = P .low;
+      from = P .from;
+      unchanged = λ q. let (same, each) = P .unchanged q in
+          (same, below-more (λ d. entry mid (entry starts d) ≤ entry weights d + entry mid (entry ends d)) e each (omega arith));
+      falls = P .falls;
+    }
+
+    -- one arc more: the cell of its start is written, with what the arc gives or with what it was
+    pub passed-more : {Less More : Type 0} (a x : ℕ) (lowered' : Bool) → a ≡ entry starts e
+        → (Less → entry mid (entry ends e) + entry weights e < entry mid a) → (More → entry mid a ≤ entry mid (entry ends e) + entry weights e)
+        → (Less × (lowered' ≡ true) × (x ≡ entry mid (entry ends e) + entry weights e)) ⊎ (More × (lowered' ≡ lowered) × (x ≡ entry mid a))
+        → Passed m starts ends weights before (set mid a x) (e + 1) lowered'
+    passed-more a x lowered' is less more (inl (t, flag, gives)) =
+        subst₂ (λ (b : ℕ) (f : Bool). Passed m starts ends weights before (set mid b x) (e + 1) f) (sym is) (sym flag)
+        (passed-lower x gives (omega (arith, less t, ap (entry mid) is)))
+    passed-more a x lowered' is less more (inr (t, flag, old)) =
+        subst₂ (λ (k : List ℕ) (f : Bool). Passed m starts ends weights before k (e + 1) f)
+        (sym (ap (set mid a) old ∙ set-getD mid a 0)) (sym flag) (passed-keep (omega (arith, more t, ap (entry mid) is)))
+
+-- all arcs
+pub passed-all : {m e : ℕ} {starts ends weights before after : List ℕ} {lowered : Bool} → Passed m starts ends weights before after e lowered → e ≡ m
+    → Passed m starts ends weights before after m lowered
+passed-all {m} {e} {starts} {ends} {weights} {before} {after} {lowered} P q = subst (λ (x : ℕ). Passed m starts ends weights before after x lowered) q P
+
+-- what is known at arc e: both nodes have a cell, and the sum fits in four bytes
+pub record ArcKnown (starts ends weights column : List ℕ) (e : ℕ) : Type 0 where
+  pub start-lt : entry starts e < length column
+  pub end-lt : entry ends e < length column
+  pub few : length column ≤ maxNodes
+  pub sum-lt : entry column (entry ends e) + entry weights e < 4294967296
+
+pub arc-known : {m e : ℕ} {starts ends weights before mid : List ℕ} {lowered : Bool} → ArcTables (length before) m starts ends weights × AllLow before
+    → Passed m starts ends weights before mid e lowered → e < m → ArcKnown starts ends weights mid e
+arc-known {m} {e} {starts} {ends} (A, low) P l = record {
+  start-lt = omega (arith, A .start-lt e l, P .same-length);
+  end-lt = omega (arith, A .end-lt e l, P .same-length);
+  few = omega (arith, A .few, P .same-length);
+  sum-lt = omega (arith, P .low (entry ends e), low (entry ends e) (A .end-lt e l), A .weight-le e l);
+}
+
+-- ---- pass after pass
+
+-- between the passes: cells are lowered along arcs
+pub record Lowering (m : ℕ) (starts ends weights before mid : List ℕ) : Type 0 where
+  pub same-length : length mid ≡ length before
+  pub low : (v : ℕ) → entry mid v ≤ entry before v
+  pub from : (v : ℕ) → (entry mid v ≡ entry before v) ⊎ ArcFrom m (entry starts) (entry ends) (entry weights) (entry mid) v
+
+module _ {m : ℕ} {starts ends weights before : List ℕ} where
+  pub lowering-none : Lowering m starts ends weights before before
+  lowering-none = record { same-length = refl; low = λ v. omega arith; from = λ v. inl refl }
+
+  module _ {mid after : List ℕ} {lowered : Bool} (L : Lowering m starts ends weights before mid) (P : Passed m starts ends weights mid after m lowered) where
+    pub lowering-more : Lowering m starts ends weights before after
+    lowering-more = record {
+      same-length = P .same-length ∙ L .same-length;
+      low = λ v. omega (arith, P .low v, L .low v);
+      from = λ v. go v (P .from v) (L .from v);
+    }
+      where
+        go : (v : ℕ) → (entry after v ≡ entry mid v) ⊎ ArcFrom m (entry starts) (entry ends) (entry weights) (entry after) v
+            → (entry mid v ≡ entry before v) ⊎ ArcFrom m (entry starts) (entry ends) (entry weights) (entry mid) v
+            → (entry after v ≡ entry before v) ⊎ ArcFrom m (entry starts) (entry ends) (entry weights) (entry after) v
+        go v (inr h) old = inr h
+        go v (inl e) (inl q) = inl (e ∙ q)
+        go v (inl e) (inr h) = inr (record {
+          arc = h .arc;
+          on-graph = h .on-graph;
+          from = h .from;
+          gives = omega (arith, h .gives, P .low (entry ends (h .arc)));
+        })
+
+    -- a pass that lowered a cell lowers their sum
+    pub pass-falls : lowered ≡ true → sumTo (length before) (entry after) < sumTo (length before) (entry mid)
+    pass-falls q = subst (λ (n : ℕ). sumTo n (entry after) < sumTo n (entry mid)) (L .same-length) (P .falls q)
+
+    -- the last pass lowered nothing
+    pub lowering-end : lowered ≡ false → Settled m starts ends weights before after
+    lowering-end q = record {
+      same-length = lowering-more .same-length;
+      over = λ n. record { low = λ v _. lowering-more .low v; from = λ v _. lowering-more .from v; closed = P .unchanged q .1 };
+    }
+
+  -- what is asked of the column stays
+  pub still-low : {mid : List ℕ} → Lowering m starts ends weights before mid → AllLow before → AllLow mid
+  still-low L low i l = omega (arith, L .low i, low i (omega (arith, L .same-length)))
+
+  pub still-arcs : {mid : List ℕ} → Lowering m starts ends weights before mid → ArcTables (length before) m starts ends weights
+      → ArcTables (length mid) m starts ends weights
+  still-arcs {mid} L A = subst (λ (n : ℕ). ArcTables n m starts ends weights) (sym (L .same-length)) A

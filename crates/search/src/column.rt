@@ -1,0 +1,73 @@
+// The cells of one set, one for each site: taken from the table, lowered along the legs until no leg gives less, and put back.
+ghost use mathlib.Core.Path.{_≡_};
+ghost use mathlib.Core.List.{map};
+ghost use Prim.Native.Nat.{_*_, _<_, _≤_};
+ghost use lib.ListN.{length};
+ghost use Rattle.lists.specs.Numbers.{numbers};
+ghost use Rattle.table.specs.Cells.{cellIn};
+ghost use Rattle.search.specs.Column.{ArcTables, AllLow, Passed, Settled};
+ghost use Rattle.search.specs.InTable.{ColumnPut};
+
+// One pass over the legs: the cell of each start is lowered where the leg and the cell of its end give less. Whether one was lowered.
+fn pass(starts: &[u16], ends: &[u16], weights: &[u32], arcs: usize, column: &mut [u32]) -> bool
+    requires { ⌜ ArcTables (length (now column)) arcs (now starts) (now ends) (now weights) × AllLow (now column) ⌝ }
+    ensures { λ r. ⌜ Passed arcs (now (starts .entry)) (now (ends .entry)) (now (weights .entry)) (now (column .entry)) (now (column .exit)) arcs r ⌝ }
+{
+    let mut lowered = false;
+    let mut e: usize = 0;
+    while e < arcs {
+        let start = starts[e] as usize;
+        let end = ends[e] as usize;
+        let old = column[start];
+        let given = column[end] + weights[e];
+        let mut new = old;
+        if given < old {
+            new = given;
+            lowered = true;
+        }
+        column[start] = new;
+        e += 1;
+    }
+    lowered
+}
+
+// Pass after pass, until one lowers nothing. Two passes in a turn: with one, the compiler makes one loop of passes and legs, which is slower.
+pub fn settle(starts: &[u16], ends: &[u16], weights: &[u32], arcs: usize, column: &mut [u32])
+    requires { ⌜ ArcTables (length (now column)) arcs (now starts) (now ends) (now weights) × AllLow (now column) ⌝ }
+    ensures { λ _. ⌜ Settled arcs (now (starts .entry)) (now (ends .entry)) (now (weights .entry)) (now (column .entry)) (now (column .exit)) ⌝ }
+{
+    loop {
+        let lowered = pass(starts, ends, weights, arcs, column);
+        if !lowered {
+            return;
+        }
+        let again = pass(starts, ends, weights, arcs, column);
+        if !again {
+            return;
+        }
+    }
+}
+
+// The cells of the set w, site by site.
+pub fn take_column(cells: &[u32], size: usize, w: usize, column: &mut [u32])
+    requires { ⌜ (w < size) × (length (now column) * size ≤ length (now cells)) ⌝ }
+    ensures { λ _. ⌜ now (column .exit) ≡ map (λ v. cellIn (now (cells .entry)) size v w) (numbers 0 (length (now (column .entry)))) ⌝ }
+{
+    let mut v = 0;
+    while v < column.len() {
+        column[v] = cells[v * size + w];
+        v += 1;
+    }
+}
+
+// They become the cells of the set w.
+pub fn put_column(column: &[u32], size: usize, w: usize, cells: &mut [u32])
+    requires { ⌜ (w < size) × (length (now column) * size ≤ length (now cells)) ⌝ }
+    ensures { λ _. ⌜ ColumnPut size w (now (column .entry)) (length (now (column .entry))) (now (cells .entry)) (now (cells .exit)) ⌝ }
+{
+    let mut v = 0;
+    while v < column.len() {
+        cells[v * size + w] = column[v];
+        v += 1;
+    }
+}

@@ -1,0 +1,134 @@
+// The search: the cost table over the graph that loaded tables hold (document 01, "The cost table").
+// It starts with the landings; then, size by size, the sets are split at each site, and closed over the legs.
+mod column;
+mod rows;
+mod sets;
+
+use crate::rows::WORKING_NONE;
+use crate::rows::split_rows;
+use crate::rows::start_rows;
+use crate::sets::POSITIONS;
+use crate::sets::close_sets;
+use crate::sets::end_of_size;
+use crate::sets::take_order;
+use table::sets_of;
+ghost use mathlib.Core.Path.{_≡_};
+ghost use mathlib.Core.List.{map};
+ghost use Prim.Native.Nat.{_*_, _^_, _≤_};
+ghost use lib.ListN.{length, replicate};
+ghost use Rattle.limits.specs.Limits.{noCost};
+ghost use Rattle.lists.specs.Numbers.{numbers};
+ghost use Rattle.lists.specs.Over.{over};
+ghost use Rattle.graph.specs.InTables.{graphIn};
+ghost use Rattle.table.specs.Cells.{costTable};
+ghost use Rattle.search.specs.WorkingNone.{finished};
+ghost use Rattle.search.specs.InOrder.{OrderTable};
+ghost use Rattle.search.specs.Column.{entry};
+ghost use Rattle.search.specs.Whole.{Searchable};
+
+// The most sites.
+const MAX_NODES: usize = limits::MAX_NODES as usize;
+
+// Each "none" of the search becomes the table's.
+fn finish(cells: &mut [u32])
+    ensures { λ _. ⌜ now (cells .exit) ≡ map (λ i. finished (entry (now (cells .entry)) i)) (numbers 0 (length (now (cells .entry)))) ⌝ }
+{
+    let mut i = 0;
+    while i < cells.len() {
+        let mut cost = cells[i];
+        if cost == WORKING_NONE {
+            cost = limits::NO_COST;
+        }
+        cells[i] = cost;
+        i += 1;
+    }
+}
+
+// The cells of all sites and sets, for a graph with a site for each entry of the column.
+fn fill(
+    starts: &[u16],
+    ends: &[u16],
+    weights: &[u32],
+    landings: &[u16],
+    sets: &[u16],
+    k: u8,
+    arcs: usize,
+    cells: &mut [u32],
+    column: &mut [u32],
+)
+    requires { ⌜ Searchable (length (now column)) k arcs (now starts) (now ends) (now weights) (now landings)
+        × (length (now cells) ≡ length (now column) * 2 ^ k) × OrderTable (now sets) ⌝ }
+    ensures { λ _. ⌜ now (cells .exit)
+        ≡ costTable (graphIn (length (now (column .entry))) k arcs (now (starts .entry)) (now (ends .entry)) (now (weights .entry)) (now (landings .entry)))
+        noCost ⌝ }
+{
+    let n = column.len();
+    let size = sets_of(k);
+    start_rows(landings, n, size, cells);
+    let mut first: usize = 1;
+    while first < POSITIONS {
+        let last = end_of_size(first);
+        split_rows(sets, n, size, first, last, cells);
+        close_sets(
+            starts,
+            ends,
+            weights,
+            arcs,
+            size,
+            first,
+            last,
+            cells,
+            column,
+        );
+        first = last;
+    }
+    finish(cells);
+}
+
+// 1 in each mark.
+fn mark_all(marks: &mut [u8])
+    ensures { λ _. ⌜ now (marks .exit) ≡ replicate (length (now (marks .entry))) 1 ⌝ }
+{
+    let mut v = 0;
+    while v < marks.len() {
+        marks[v] = 1;
+        v += 1;
+    }
+}
+
+// The cost table and the marks of a sheet with n sites, k stations and so many legs, over the tables that hold it.
+pub fn search(
+    starts: &[u16],
+    ends: &[u16],
+    weights: &[u32],
+    landings: &[u16],
+    n: u16,
+    k: u8,
+    arcs: u16,
+    cells: &mut [u32],
+    marks: &mut [u8],
+)
+    requires { ⌜ Searchable n k arcs (now starts) (now ends) (now weights) (now landings) × (n * 2 ^ k ≤ length (now cells)) × (n ≤ length (now marks)) ⌝ }
+    ensures { λ _. ⌜ now (cells .exit)
+        ≡ over (costTable (graphIn n k arcs (now (starts .entry)) (now (ends .entry)) (now (weights .entry)) (now (landings .entry))) noCost)
+        (now (cells .entry)) ⌝ }
+    ensures { λ _. ⌜ now (marks .exit) ≡ over (replicate n 1) (now (marks .entry)) ⌝ }
+{
+    let nodes = n as usize;
+    let total = nodes * sets_of(k);
+    let mut sets = [0u16; POSITIONS];
+    take_order(&mut sets);
+    let mut column = [0u32; MAX_NODES];
+    fill(
+        starts,
+        ends,
+        weights,
+        landings,
+        &sets,
+        k,
+        arcs as usize,
+        &mut cells[..total],
+        &mut column[..nodes],
+    );
+    mark_all(&mut marks[..nodes]);
+}

@@ -1,0 +1,92 @@
+// The sets of one size: where they stand in the order, and their closing over the legs, set by set.
+use crate::column::put_column;
+use crate::column::settle;
+use crate::column::take_column;
+ghost use mathlib.Core.Path.{_≡_};
+ghost use Prim.Native.Nat.{_*_, _<_, _≤_};
+ghost use lib.ListN.{length};
+ghost use Rattle.limits.specs.Limits.{maxSubsets};
+ghost use Rattle.order.specs.Order.{inOrder};
+ghost use Rattle.search.specs.Ranges.{OneSize};
+ghost use Rattle.search.specs.InOrder.{OrderTable, SizeEnd};
+ghost use Rattle.search.specs.Column.{ArcTables, AllLow};
+ghost use Rattle.search.specs.ClosedCells.{SetClosed, SetsClosed};
+
+// How many positions the order has.
+pub const POSITIONS: usize = limits::MAX_SUBSETS as usize;
+
+// The sets in their order, one for each position.
+pub fn take_order(sets: &mut [u16])
+    requires { ⌜ length (now sets) ≡ maxSubsets ⌝ }
+    ensures { λ _. ⌜ OrderTable (now (sets .exit)) ⌝ }
+{
+    let mut position: usize = 0;
+    while position < POSITIONS {
+        sets[position] = order::at(position).0;
+        position += 1;
+    }
+}
+
+// The end of the range of positions, from `first` on, whose sets have one size.
+pub fn end_of_size(first: usize) -> usize
+    requires { ⌜ first < maxSubsets ⌝ }
+    ensures { λ r. ⌜ SizeEnd first r ⌝ }
+{
+    let size = order::at(first).size();
+    let mut last = first + 1;
+    while last < POSITIONS {
+        if order::at(last).size() != size {
+            return last;
+        }
+        last += 1;
+    }
+    last
+}
+
+// The cells of the set w are lowered along the legs until no leg gives less. The column has an entry for each site.
+fn close_set(
+    starts: &[u16],
+    ends: &[u16],
+    weights: &[u32],
+    arcs: usize,
+    size: usize,
+    w: usize,
+    cells: &mut [u32],
+    column: &mut [u32],
+)
+    requires { ⌜ (w < size) × (length (now cells) ≡ length (now column) * size)
+        × ArcTables (length (now column)) arcs (now starts) (now ends) (now weights) × AllLow (now cells) ⌝ }
+    ensures { λ _. ⌜ SetClosed (length (now (column .entry))) arcs size (now (starts .entry)) (now (ends .entry)) (now (weights .entry)) w
+        (now (cells .entry)) (now (cells .exit)) ⌝ }
+{
+    take_column(cells, size, w, column);
+    settle(starts, ends, weights, arcs, column);
+    put_column(column, size, w, cells);
+}
+
+// The same for each set at the positions from `first` up to `last`, which have one size. Sets that the table does not have are passed over.
+pub fn close_sets(
+    starts: &[u16],
+    ends: &[u16],
+    weights: &[u32],
+    arcs: usize,
+    size: usize,
+    first: usize,
+    last: usize,
+    cells: &mut [u32],
+    column: &mut [u32],
+)
+    requires { ⌜ OneSize inOrder maxSubsets first last × (length (now cells) ≡ length (now column) * size)
+        × ArcTables (length (now column)) arcs (now starts) (now ends) (now weights) × AllLow (now cells) × (size ≤ maxSubsets) ⌝ }
+    ensures { λ _. ⌜ SetsClosed (length (now (column .entry))) arcs size (now (starts .entry)) (now (ends .entry)) (now (weights .entry)) inOrder first last
+        (now (cells .entry)) (now (cells .exit)) ⌝ }
+{
+    let mut position = first;
+    while position < last {
+        let w = order::at(position).0 as usize;
+        if w < size {
+            close_set(starts, ends, weights, arcs, size, w, cells, column);
+        }
+        position += 1;
+    }
+}
