@@ -1,0 +1,59 @@
+-- The arcs of a plan, as they are listed in a table from a place on, and what the laying out of one rests on (document 01, "Laying out a plan").
+-- Assumes nothing.
+use Prim.Native.Nat.{ℕ, _+_, _*_, _^_, _≤_, _<_}
+use mathlib.Core.Path.{_≡_}
+use mathlib.Core.Bool.{not}
+use mathlib.Core.Option.{none}
+use mathlib.Core.List.{List}
+use lib.Dec.{T}
+use lib.ListN.{length}
+use lib.Seq.{sets}
+use Rattle.limits.specs.Limits.{maxTerminals, noCost}
+use Rattle.lists.specs.Find.{first}
+use Rattle.graph.specs.Graph.{Graph, Sound}
+use Rattle.graph.specs.InTables.{graphIn}
+use Rattle.graph.specs.LeastTotals.{IsCostTable, Room}
+use Rattle.graph.specs.Layout.{isDone, fits, layout}
+use Rattle.table.specs.Cells.{cellIn}
+
+-- the cells of a graph's nodes and sets in a list
+abbrev pub cellsFor : Graph → List ℕ → ℕ → ℕ → ℕ
+cellsFor G cells = cellIn cells (2 ^ G .terminals)
+
+-- the arcs added at v with w
+abbrev pub laid : Graph → List ℕ → (v w : ℕ) → List ℕ
+laid G cells = layout G (cellsFor G cells) noCost
+
+-- the cells are the finished cost table of a sound graph, whose totals are all below "none"
+pub record Finished (G : Graph) (cells : List ℕ) : Type 0 where
+  pub sound : Sound G
+  pub room : Room G noCost
+  pub table : IsCostTable G (cellsFor G cells) noCost
+
+-- what the laying out of a plan rests on: tables that are long enough hold a graph and its finished cost table
+pub record Ready (n k m : ℕ) (starts ends weights landings cells : List ℕ) : Type 0 where
+  pub some-terminal : 1 ≤ k
+  pub terminals : k ≤ maxTerminals
+  pub long-starts : m ≤ length starts
+  pub long-ends : m ≤ length ends
+  pub long-weights : m ≤ length weights
+  pub long-landings : n ≤ length landings
+  pub long-cells : n * 2 ^ k ≤ length cells
+  pub finished : Finished (graphIn n k m starts ends weights landings) cells
+
+-- v is a node and w a set with a finite cell, and their arcs have room between the place `at` and the end of a table
+pub record Placed (G : Graph) (cells : List ℕ) (v w at size : ℕ) : Type 0 where
+  pub node : v < G .nodes
+  pub set : w < 2 ^ G .terminals
+  pub finite : cellsFor G cells v w < noCost
+  pub long : at + length (laid G cells v w) ≤ size
+
+-- something is to be added at v with w, and no arc fits
+pub record Unfollowed (G : Graph) (cells : List ℕ) (v w : ℕ) : Type 0 where
+  pub undone : T (not (isDone G v w))
+  pub no-arc : first (fits G (cellsFor G cells) noCost v w) (G .arcs) ≡ none
+
+-- arcs are listed from the place `at` on, and r is the place after them
+pub record Stored (arcs : List ℕ) (at r : ℕ) (out out' : List ℕ) : Type 0 where
+  pub place : r ≡ at + length arcs
+  pub entries : out' ≡ sets out at arcs
