@@ -178,7 +178,7 @@ areLong-true n arcCount t l =
     λ i. le-leb _ _ (l .starts) i && le-leb _ _ (l .ends) i && le-leb _ _ (l .weights) i && le-leb _ _ (l .landings) i
 
 -- what follows the verdict on a sheet that is judged
-module _ {A : Type 0} (refuse : SheetFault → A) (short : A) (long : ℕ → ℕ → Bool) (next : ℕ → ℕ → List Record → A) (s : List ℕ) where
+module _ {A : Type 0} (refuse : SheetFault → A) (short : A) (long : (n k arcCount : ℕ) → Bool) (next : ℕ → ℕ → List Record → A) (s : List ℕ) where
   pub by-fault : (f : SheetFault) → Fault f ≡ judgedOf (verdict s) → refuse f ≡ byVerdict refuse short long next (verdict s)
   by-fault f e = go (verdict s) e
     where
@@ -187,15 +187,15 @@ module _ {A : Type 0} (refuse : SheetFault → A) (short : A) (long : ℕ → �
       go (bad g) q = let same : f ≡ g = cc in ap refuse same
 
   module _ (n k arcCount : ℕ) (f : JudgedGood (verdict s) n k arcCount) where
-    by-lengths : (b : Bool) → long n arcCount ≡ b → cond b (next n k (f .records)) short ≡ byVerdict refuse short long next (verdict s)
+    by-lengths : (b : Bool) → long n k arcCount ≡ b → cond b (next n k (f .records)) short ≡ byVerdict refuse short long next (verdict s)
     by-lengths b h =
         sym (ap (byVerdict refuse short long next) (f .good-sheet)
-        ∙ ap (λ (c : Bool). cond c (next n k (f .records)) short) (ap (long n) (f .count) ∙ h))
+        ∙ ap (λ (c : Bool). cond c (next n k (f .records)) short) (ap (long n k) (f .count) ∙ h))
 
-    pub by-short : long n arcCount ≡ false → short ≡ byVerdict refuse short long next (verdict s)
+    pub by-short : long n k arcCount ≡ false → short ≡ byVerdict refuse short long next (verdict s)
     by-short = by-lengths false
 
-    pub by-good : long n arcCount ≡ true → next n k (f .records) ≡ byVerdict refuse short long next (verdict s)
+    pub by-good : long n k arcCount ≡ true → next n k (f .records) ≡ byVerdict refuse short long next (verdict s)
     by-good = by-lengths true
 
 module _ (s : List ℕ) (t : Tables) where
@@ -215,10 +215,10 @@ module _ (s : List ℕ) (t : Tables) where
     pub loaded-whole : areLong n arcCount t ≡ true → (t' : Tables) → t' ≡ loadedBy (verdict s) t → outcome (sheet n k arcCount) t' ≡ loadingOf s t
     loaded-whole h t' written =
         ap₂ (λ (m : ℕ) (x : Tables). outcome (sheet n k m) x) (sym (judged .count)) (written ∙ ap (λ (v : Verdict). loadedBy v t) (judged .good-sheet))
-        ∙ by-good _ _ (λ n m. areLong n m t) _ s n k arcCount judged h
+        ∙ by-good _ _ (λ n k m. areLong n m t) _ s n k arcCount judged h
 
     pub refused-short : areLong n arcCount t ≡ false → outcome (refusal (refused ofTables shortTables 0)) t ≡ loadingOf s t
-    refused-short h = by-short _ _ (λ n m. areLong n m t) _ s n k arcCount judged h
+    refused-short h = by-short _ _ (λ n k m. areLong n m t) _ s n k arcCount judged h
 
   pub refused-sheet : (f : SheetFault) → Fault f ≡ judgedOf (verdict s) → outcome (refusal (statedSheet f)) t ≡ loadingOf s t
-  refused-sheet f e = by-fault (λ f. outcome (refusal (statedSheet f)) t) _ (λ n m. areLong n m t) _ s f e
+  refused-sheet f e = by-fault (λ f. outcome (refusal (statedSheet f)) t) _ (λ n k m. areLong n m t) _ s f e

@@ -72,15 +72,15 @@ returned (Refused r) = refusal (statedRefusal r)
 pub data Outcome : Type 0 where
   outcome : Returned → Tables → Outcome
 
--- what follows a verdict: the sheet's refusal; 11, where the tables are not long enough for n sites and so many legs; or what is done with a
--- good sheet
-module _ {A : Type 0} (refuse : SheetFault → A) (short : A) (long : ℕ → ℕ → Bool) (next : ℕ → ℕ → List Record → A) where
+-- what follows a verdict: the sheet's refusal; 11, where the tables are not long enough for n sites, k stations and so many legs; or what is
+-- done with a good sheet
+module _ {A : Type 0} (refuse : SheetFault → A) (short : A) (long : (n k arcCount : ℕ) → Bool) (next : ℕ → ℕ → List Record → A) where
   abbrev pub byVerdict : Verdict → A
-  byVerdict (good n k records) = cond (long n (length (arcs records))) (next n k records) short
+  byVerdict (good n k records) = cond (long n k (length (arcs records))) (next n k records) short
   byVerdict (bad fault) = refuse fault
 
 -- the sheet's refusals and 11 touch nothing
 abbrev pub loadingOf : List ℕ → Tables → Outcome
 loadingOf bytes t =
-    byVerdict (λ fault. outcome (refusal (statedSheet fault)) t) (outcome (refusal (refused ofTables shortTables 0)) t) (λ n m. areLong n m t)
+    byVerdict (λ fault. outcome (refusal (statedSheet fault)) t) (outcome (refusal (refused ofTables shortTables 0)) t) (λ n k m. areLong n m t)
     (λ n k records. outcome (sheet n k (length (arcs records))) (loaded n records t)) (verdict bytes)

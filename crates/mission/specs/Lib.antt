@@ -1,3 +1,12 @@
--- what is lent to a plan reader and what a run gives; the mission's point 2
+-- what is lent to an engine and to a plan reader, and what a run gives
 pub mod Runs
+-- the stated rule by which equals are chosen
+pub mod Rule
+-- the mission's three points
+pub mod PointOne
 pub mod PointTwo
+pub mod PointThree
+-- the rule gives one plan
+pub mod OnePlan
+-- laws that the proofs of the points share
+pub mod PointLaws

@@ -13,6 +13,7 @@ pub mod Judging
 -- the file against the tables
 pub mod Ready
 pub mod Against
--- the whole, and the mission's point 2
+-- the whole, and the mission's points
 pub mod Whole
 pub mod PointTwo
+pub mod PointOne

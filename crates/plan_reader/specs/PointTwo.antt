@@ -31,8 +31,8 @@ use Rattle.sheet.specs.declared.record.Record.{Record}
 use Rattle.network.specs.Network.{graphOf}
 use Rattle.planfile.specs.Format.{rootIn, totalIn, countIn, listedArc, arcsIn}
 use Rattle.planfile.specs.Encoded.{WellFormed, FieldsAre, fields-encoding, encoding-fields}
-use Rattle.mission.specs.Runs.{ReaderTables, ReaderLong, Run, run}
-use Rattle.mission.specs.PointTwo.{EncodesPlan, AcceptsPlans, ReaderPointTwo}
+use Rattle.mission.specs.Runs.{ReaderTables, ReaderLong, Run}
+use Rattle.mission.specs.PointTwo.{EncodesPlan, ReaderPointTwo}
 use Rattle.plan_reader.specs.Reader.{fileFault, orElse, planFault, treeFault, answered, answerTo, allLong, readingOf}
 use Rattle.plan_reader.specs.Faults.{some-fault, FileOk, file-passes, file-passed, listed-on, failed-none, none-failed}
 use Rattle.plan_reader.specs.Returned.{FieldsOf}
@@ -131,12 +131,6 @@ point-two sheet file bytes t n k records e long root cost count =
       (λ q. accepted-encodes G file bytes root cost count (sym same ∙ q)),
       (λ p. same ∙ encodes-accepted G file root cost count p),
     )
-
--- a run with the defined outcome has it
-pub cites-point-two : (sheet file : List ℕ) → Bytes file → (t : ReaderTables) (answer : Stated) (after : ReaderTables)
-    → run answer after ≡ readingOf sheet file t → (run answer after ≡ readingOf sheet file t) × AcceptsPlans sheet file t answer
-cites-point-two sheet file bytes t answer after e =
-    (e, subst (AcceptsPlans sheet file t) (sym (ap (λ (r : Run ReaderTables). r .answer) e)) (point-two sheet file bytes t))
 
 -- ---- an acceptance is of a good sheet, with long enough tables
 

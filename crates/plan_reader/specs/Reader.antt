@@ -134,6 +134,6 @@ readingOf sheet file t =
     byVerdict
     (λ fault. run (statedSheet fault) t)
     (run (refused ofTables shortTables 0) t)
-    (λ n m. allLong n m t)
+    (λ n k m. allLong n m t)
     (λ n k records. readAgainst n k records file t)
     (verdict sheet)

@@ -38,7 +38,7 @@ module _ (sheet file : List ℕ) (t : ReaderTables) where
   -- 1 to 10 touch nothing
   pub sheet-refused : (fault : SheetFault) → verdict sheet ≡ bad fault → readingOf sheet file t ≡ run (statedSheet fault) t
   sheet-refused fault e =
-      ap (byVerdict (λ fault. run (statedSheet fault) t) (run (refused ofTables shortTables 0) t) (λ n m. allLong n m t)
+      ap (byVerdict (λ fault. run (statedSheet fault) t) (run (refused ofTables shortTables 0) t) (λ n k m. allLong n m t)
       (λ n k records. readAgainst n k records file t)) e
 
   module _ (n k : ℕ) (records : List Record) (e : verdict sheet ≡ good n k records) where
@@ -48,7 +48,7 @@ module _ (sheet file : List ℕ) (t : ReaderTables) where
 
     -- 11 touches nothing
     pub test-failed : allLong n (length (arcs records)) t ≡ false → readingOf sheet file t ≡ run (refused ofTables shortTables 0) t
-    test-failed h = sym (by-short _ _ (λ n m. allLong n m t) _ sheet n k (length (arcs records)) judged h)
+    test-failed h = sym (by-short _ _ (λ n k m. allLong n m t) _ sheet n k (length (arcs records)) judged h)
 
     pub tables-short : (ReaderLong n (length (arcs records)) t → ⊥) → readingOf sheet file t ≡ run (refused ofTables shortTables 0) t
     tables-short short =
@@ -59,7 +59,7 @@ module _ (sheet file : List ℕ) (t : ReaderTables) where
     -- with long enough tables the file is read
     pub file-read : ReaderLong n (length (arcs records)) t → readingOf sheet file t ≡ readAgainst n k records file t
     file-read long =
-        sym (by-good _ _ (λ n m. allLong n m t) _ sheet n k (length (arcs records)) judged (long-passes n (length (arcs records)) t long))
+        sym (by-good _ _ (λ n k m. allLong n m t) _ sheet n k (length (arcs records)) judged (long-passes n (length (arcs records)) t long))
 
 module _ (n k : ℕ) (records : List Record) (file : List ℕ) (t : ReaderTables) where
   -- the leg and landing tables are filled, and the marks are these

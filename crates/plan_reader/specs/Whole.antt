@@ -39,7 +39,7 @@ module _ (s file : List ℕ) (bytes : Bytes s) (t : Tables) (marks : List ℕ) w
 
     -- 11
     pub short-read : allLong n m lent ≡ false → run (refused ofTables shortTables 0) lent ≡ readingOf s file lent
-    short-read q = by-short _ _ (λ n m. allLong n m lent) _ s n k m judged q
+    short-read q = by-short _ _ (λ n k m. allLong n m lent) _ s n k m judged q
 
     module _ (q : allLong n m lent ≡ true) where
       long : ReaderLong n m lent
@@ -85,8 +85,8 @@ module _ (s file : List ℕ) (bytes : Bytes s) (t : Tables) (marks : List ℕ) w
         whole-read answer after told marked =
             (λ i. run ((told ∙ ap (λ (G : Graph). answerTo G file) graph-is) i)
             (readerTables (held-is i) ((marked ∙ ap (λ (G : Graph). marksAfter G file marks) graph-is) i)))
-            ∙ by-good _ _ (λ n m. allLong n m lent) _ s n k m judged q
+            ∙ by-good _ _ (λ n k m. allLong n m lent) _ s n k m judged q
 
   -- 1 to 10
   pub sheet-read : (f : SheetFault) → Fault f ≡ judgedOf (verdict s) → run (statedSheet f) lent ≡ readingOf s file lent
-  sheet-read f e = by-fault (λ f. run (statedSheet f) lent) _ (λ n m. allLong n m lent) _ s f e
+  sheet-read f e = by-fault (λ f. run (statedSheet f) lent) _ (λ n k m. allLong n m lent) _ s f e

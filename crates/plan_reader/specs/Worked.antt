@@ -1,5 +1,5 @@
--- Document 01's plan file for sheet A, its cases K and L, further trees, and files for each of the refusals 14 to 19, settled by computation:
--- the answer and every table afterwards.
+-- The bytes of document 01's plan file for sheet A and of its cases K and L, which are settled in crate cases; further trees, and files for
+-- each of the refusals 14 to 18, settled by computation: the answer and every table afterwards.
 -- Assumes nothing.
 use Prim.Native.Nat.{ℕ}
 use mathlib.Core.Path.{_≡_, refl}
@@ -177,13 +177,13 @@ filledWith marks =
     readerTables (tables (0 ∷ 1 ∷ 1 ∷ 0 ∷ 0 ∷ 7 ∷ []) (1 ∷ 2 ∷ 3 ∷ 2 ∷ 3 ∷ 7 ∷ []) (4 ∷ 3 ∷ 3 ∷ 5 ∷ 6 ∷ 7 ∷ []) (4 ∷ 0 ∷ 1 ∷ 2 ∷ 7 ∷ []))
     marks
 
-pub settled :
+-- which files are accepted, and which are refused as what
+pub files-settled :
     (encoding 0 10 (0 ∷ 1 ∷ 2 ∷ []) ≡ some planA)
     × (encoding 65_536 10 (0 ∷ 1 ∷ 2 ∷ []) ≡ none)
     × (encoding 0 4_294_967_296 (0 ∷ 1 ∷ 2 ∷ []) ≡ none)
     × (encoding 0 10 (0 ∷ 65_536 ∷ []) ≡ none)
     × (readingOf sheetF planA lent ≡ run (refused ofSheet 7 5) lent)
-    × (readingOf sheetA planA lent ≡ run (plan 0 10 3) (filledWith (1 ∷ 1 ∷ 1 ∷ 1 ∷ 9 ∷ [])))
     × (readingOf sheetA reversed lent ≡ run (plan 0 10 3) (filledWith (1 ∷ 1 ∷ 1 ∷ 1 ∷ 9 ∷ [])))
     × (readingOf sheetA dearer lent ≡ run (plan 0 11 2) (filledWith (1 ∷ 0 ∷ 1 ∷ 1 ∷ 9 ∷ [])))
     × (readingOf sheetA planA lentShort ≡ run (refused ofTables 11 0) lentShort)
@@ -194,13 +194,11 @@ pub settled :
     × (readingOf sheetA wrongArcMark lent ≡ run (refused ofPlanFile 15 14) (filledWith (9 ∷ 9 ∷ 9 ∷ 9 ∷ 9 ∷ [])))
     × (readingOf sheetA unknownRoot lent ≡ run (refused ofPlanFile 16 0) (filledWith (9 ∷ 9 ∷ 9 ∷ 9 ∷ 9 ∷ [])))
     × (readingOf sheetA unknownArc lent ≡ run (refused ofPlanFile 16 18) (filledWith (9 ∷ 9 ∷ 9 ∷ 9 ∷ 9 ∷ [])))
-    × (readingOf sheetA planK lent ≡ run (refused ofPlanFile 17 0) (filledWith (1 ∷ 1 ∷ 1 ∷ 1 ∷ 9 ∷ [])))
     × (readingOf sheetA twoToOneNode lent ≡ run (refused ofPlanFile 17 0) (filledWith (1 ∷ 1 ∷ 1 ∷ 1 ∷ 9 ∷ [])))
     × (readingOf sheetD intoTheRoot lent ≡ run (refused ofPlanFile 17 0) (filledWithD (1 ∷ 1 ∷ 9 ∷ 9 ∷ 9 ∷ [])))
     × (readingOf sheetD onlyIntoTheRoot lent ≡ run (refused ofPlanFile 17 0) (filledWithD (1 ∷ 0 ∷ 9 ∷ 9 ∷ 9 ∷ [])))
     × (readingOf sheetA notReached lent ≡ run (refused ofPlanFile 17 0) (filledWith (1 ∷ 0 ∷ 0 ∷ 0 ∷ 9 ∷ [])))
     × (readingOf sheetA missed lent ≡ run (refused ofPlanFile 18 0) (filledWith (1 ∷ 1 ∷ 1 ∷ 0 ∷ 9 ∷ [])))
-    × (readingOf sheetA planL lent ≡ run (refused ofPlanFile 19 0) (filledWith (1 ∷ 1 ∷ 1 ∷ 1 ∷ 9 ∷ [])))
 unfolding verdict readFor loaded fileFault treeFault
-settled =
-    (refl, refl, refl, refl, refl, refl, refl, refl, refl, refl, refl, refl, refl, refl, refl, refl, refl, refl, refl, refl, refl, refl, refl)
+files-settled =
+    (refl, refl, refl, refl, refl, refl, refl, refl, refl, refl, refl, refl, refl, refl, refl, refl, refl, refl, refl, refl)

@@ -18,6 +18,7 @@ ghost use Rattle.answer.specs.Stated.{stated};
 ghost use Rattle.loader.specs.Tables.{tables, longEnough};
 ghost use Rattle.network.specs.Network.{graphHeld};
 ghost use Rattle.mission.specs.Runs.{readerTables, run};
+ghost use Rattle.mission.specs.PointOne.{ReaderAnswers};
 ghost use Rattle.mission.specs.PointTwo.{AcceptsPlans};
 ghost use Rattle.planfile.specs.Format.{arcsTo};
 ghost use Rattle.plan_reader.specs.Reader.{answeredAs, answerTo, marksOf, marksAfter, readingOf};
@@ -126,6 +127,10 @@ pub fn read_plan(
     ensures { λ r. ⌜ AcceptsPlans (now (sheet .entry)) (now (file .entry))
         (readerTables (tables (now (starts .entry)) (now (ends .entry)) (now (weights .entry)) (now (landings .entry))) (now (marks .entry)))
         (stated r) ⌝ }
+    ensures { λ r. ⌜ ReaderAnswers (now (sheet .entry)) (now (file .entry))
+        (readerTables (tables (now (starts .entry)) (now (ends .entry)) (now (weights .entry)) (now (landings .entry))) (now (marks .entry)))
+        (stated r)
+        (readerTables (tables (now (starts .exit)) (now (ends .exit)) (now (weights .exit)) (now (landings .exit))) (now (marks .exit))) ⌝ }
 {
     let judged = judge(sheet);
     match judged {

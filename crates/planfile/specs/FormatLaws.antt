@@ -5,7 +5,7 @@ use Prim.Native.Nat.{ℕ, zero, suc, _+_, _*_, _≤_, _<_, _^_}
 use mathlib.Core.Path.{_≡_, refl, sym, ap, _∙_}
 use mathlib.Core.Bool.{Bool, cond}
 use mathlib.Core.Option.{none, some}
-use mathlib.Core.List.{List, _++_, map}
+use mathlib.Core.List.{List, [], _∷_, _++_, map}
 use native.Mathlib.Nat.{add-zero, zero-add}
 use native.Mathlib.Omega.{arith}
 use lib.ListN.{length, getD, drop, length-append}
@@ -13,7 +13,7 @@ use lib.Seq.{ext-getD, drop-append-add}
 use lib.Dec.{T, ltb→lt, lt→ltb}
 use Rattle.limits.specs.Marks.{markPN, markLG}
 use Rattle.lists.specs.Tests.{fact-true, and-left, and-right, and-both, choice-some}
-use Rattle.lists.specs.Every.{Every, every-at}
+use Rattle.lists.specs.Every.{Every, every-append, every-at}
 use Rattle.lists.specs.Listed.{every-listed, listed-every}
 use Rattle.lists.specs.Find.{allOf, all-entries, entries-all}
 use Rattle.lists.specs.Numbers.{numbers, length-values, getD-values}
@@ -71,6 +71,18 @@ module _ (root total : ℕ) (arcs : List ℕ) where
 
   pub encoding-fits : (file : List ℕ) → encoding root total arcs ≡ some file → Fits root total arcs × (fileBytes root total arcs ≡ file)
   encoding-fits file e = let (t, same) = choice-some (fits root total arcs) (fileBytes root total arcs) file e in (passed-fits t, same)
+
+-- it is bytes
+records-bytes : (arcs : List ℕ) → Bytes (joined arcBytes arcs)
+records-bytes [] = tt
+records-bytes (e ∷ arcs) =
+    every-append (λ (b : ℕ). b < 256) (arcBytes e) (joined arcBytes arcs) (omega arith, (omega arith, (omega arith, (omega arith, tt)))) (records-bytes arcs)
+
+pub file-bytes : (root total : ℕ) (arcs : List ℕ) → Bytes (fileBytes root total arcs)
+file-bytes root total arcs =
+    every-append (λ (b : ℕ). b < 256) (headBytes root total (length arcs)) (joined arcBytes arcs)
+    (omega arith, (omega arith, (omega arith, (omega arith, (omega arith, (omega arith, (omega arith, (omega arith, (omega arith, (omega arith, tt))))))))))
+    (records-bytes arcs)
 
 -- ---- what is read from a file
 

@@ -1,12 +1,8 @@
--- The worked sheets A to J of document 01, "The desk program and worked sheets": what the definitions say of each, settled by computation.
+-- The bytes of the worked sheets A to J of document 01, "The desk program and worked sheets". What the definitions say of them is settled in
+-- crate cases.
 -- Assumes nothing.
 use Prim.Native.Nat.{ℕ}
-use mathlib.Core.Path.{_≡_, refl}
 use mathlib.Core.List.{List, [], _∷_}
-use Rattle.answer.specs.Stated.{Stated, refused, ofSheet, statedSheet}
-use Rattle.sheet.specs.Arcs.{Arc, arc, arcs}
-use Rattle.sheet.specs.Verdict.{Verdict, good, bad, verdict, readFor}
-use Rattle.sheet.specs.Landings.{terminalSets}
 
 -- `HD` 4 3; `LK` 0 1 4; `LK` 1 2 3; `LK` 1 3 3; `LK` 0 2 5; `LK` 0 3 6; `ST` 0 2; `ST` 1 3; `ST` 2 0; `ED`
 abbrev pub sheetA : List ℕ
@@ -105,27 +101,3 @@ sheetJ =
     0x45 ∷ 0x44 ∷
     0x00 ∷
     []
-
--- what a verdict says: the sites and stations, the legs and each site's set of stations, or the refusal
-pub data Content : Type 0 where
-  sheet : (n k : ℕ) → List Arc → (terminals : List ℕ) → Content
-  refusal : Stated → Content
-
-abbrev pub content : Verdict → Content
-content (good n k records) = sheet n k (arcs records) (terminalSets n records)
-content (bad fault) = refusal (statedSheet fault)
-
-pub settled :
-    (content (verdict sheetA)
-    ≡ sheet 4 3 (arc 0 1 4 ∷ arc 1 2 3 ∷ arc 1 3 3 ∷ arc 0 2 5 ∷ arc 0 3 6 ∷ []) (4 ∷ 0 ∷ 1 ∷ 2 ∷ []))
-    × (content (verdict sheetB) ≡ sheet 1 1 [] (1 ∷ []))
-    × (content (verdict sheetC) ≡ sheet 3 2 (arc 0 1 9 ∷ arc 0 2 4 ∷ []) (1 ∷ 2 ∷ 2 ∷ []))
-    × (content (verdict sheetD) ≡ sheet 2 2 (arc 0 1 7 ∷ arc 1 0 7 ∷ []) (1 ∷ 2 ∷ []))
-    × (content (verdict sheetE) ≡ sheet 2 2 [] (1 ∷ 2 ∷ []))
-    × (content (verdict sheetF) ≡ refusal (refused ofSheet 7 5))
-    × (content (verdict sheetG) ≡ sheet 2 2 (arc 0 1 1_000_000 ∷ arc 1 0 1_000_000 ∷ []) (1 ∷ 2 ∷ []))
-    × (content (verdict sheetH) ≡ refusal (refused ofSheet 7 5))
-    × (content (verdict sheetI) ≡ refusal (refused ofSheet 1 0))
-    × (content (verdict sheetJ) ≡ refusal (refused ofSheet 9 12))
-unfolding verdict readFor
-settled = (refl, refl, refl, refl, refl, refl, refl, refl, refl, refl)

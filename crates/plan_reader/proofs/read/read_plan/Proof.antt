@@ -8,7 +8,7 @@ use Rattle.sheet.specs.FieldLaws.{known-bytes}
 use Rattle.loader.specs.Tables.{tables}
 use Rattle.mission.specs.Runs.{readerTables}
 use Rattle.plan_reader.specs.Whole.{loadable, ready, whole-read, short-read, sheet-read}
-use Rattle.plan_reader.specs.PointTwo.{cites-point-two}
+use Rattle.plan_reader.specs.PointOne.{cites-points}
 use Rattle.plan_reader.proofs.read.read_plan.Statement.{statement}
 use Rattle.plan_reader.proofs.read.read_plan.Tie as tie
 
@@ -59,7 +59,7 @@ returns c =
     let t = tables (now (a .starts)) (now (a .ends)) (now (a .weights)) (now (a .landings)) in
     let bytes = known-bytes (now (a .sheet)) (λ i. omega (arith, c .before .before .before .before .before .before .before .before .before .before .before .before .before .before .before .before .before .before .before .before .before .before .before .before .before .before .before .before .before .before .before .before .before .shared-slice-known .given i)) in
     let file-bytes = known-bytes (now (a .file)) (λ i. omega (arith, c .before .before .before .before .before .before .before .before .before .before .before .before .before .before .before .before .before .before .before .before .before .before .before .before .before .before .before .before .before .before .before .before .shared-slice-known2 .given i)) in
-    cites-point-two (now (a .sheet)) (now (a .file)) file-bytes (readerTables t (now (a .marks))) _ _
+    cites-points (now (a .sheet)) (now (a .file)) file-bytes (readerTables t (now (a .marks))) _ _
     (whole-read (now (a .sheet)) (now (a .file)) bytes t (now (a .marks)) _ _ _ (sym (c .before .before .before .before .before .before .before .before .before .before .before .before .before .before .before .before .before .before .before .before .before .before .before .before .judged2 .given .1) ∙ c .before .before .before .before .before .before .before .before .before .before .before .before .before .before .before .before .before .before .before .before .before .before .before .before .before .before .judge .ensures) (sym (c .before .before .before .before .before .before .before .before .before .before .before .before .before .before .before .before .before .before .before .before .before .before .all-long-enough .ensures) ∙ c .before .before .before .before .before .before .before .before .before .before .before .before .before .before .before .before .before .before .before .before .before .if1 .taken) _ (c .before .before .before .before .before .before .before .before .before .before .before .before .before .before .before .before .load .ensures) _ _ (c .before .before .read-file .ensures .0) (c .before .before .read-file .ensures .1))
 
 returns-2 : tie.Need-returns-2
@@ -68,7 +68,7 @@ returns-2 c =
     let t = tables (now (a .starts)) (now (a .ends)) (now (a .weights)) (now (a .landings)) in
     let bytes = known-bytes (now (a .sheet)) (λ i. omega (arith, c .before .before .before .before .before .before .before .before .before .before .shared-slice-known .given i)) in
     let file-bytes = known-bytes (now (a .file)) (λ i. omega (arith, c .before .before .before .before .before .before .before .before .before .shared-slice-known2 .given i)) in
-    cites-point-two (now (a .sheet)) (now (a .file)) file-bytes (readerTables t (now (a .marks))) _ _
+    cites-points (now (a .sheet)) (now (a .file)) file-bytes (readerTables t (now (a .marks))) _ _
     (sheet-read (now (a .sheet)) (now (a .file)) bytes t (now (a .marks)) _ (sym (c .before .judged .given .1) ∙ c .before .before .before .judge .ensures))
 
 returns-3 : tie.Need-returns-3
@@ -77,7 +77,7 @@ returns-3 c =
     let t = tables (now (a .starts)) (now (a .ends)) (now (a .weights)) (now (a .landings)) in
     let bytes = known-bytes (now (a .sheet)) (λ i. omega (arith, c .before .before .before .before .before .before .before .before .before .before .before .before .shared-slice-known .given i)) in
     let file-bytes = known-bytes (now (a .file)) (λ i. omega (arith, c .before .before .before .before .before .before .before .before .before .before .before .shared-slice-known2 .given i)) in
-    cites-point-two (now (a .sheet)) (now (a .file)) file-bytes (readerTables t (now (a .marks))) _ _
+    cites-points (now (a .sheet)) (now (a .file)) file-bytes (readerTables t (now (a .marks))) _ _
     (short-read (now (a .sheet)) (now (a .file)) bytes t (now (a .marks)) _ _ _ (sym (c .before .before .before .judged2 .given .1) ∙ c .before .before .before .before .before .judge .ensures) (sym (c .before .all-long-enough .ensures) ∙ c .if1 .left))
 
 pub read-plan-spec : {M : Type 1} → statement M
