@@ -1,0 +1,199 @@
+-- Document 01, "Agreed": "These worthless engines are shut out: "no plan" without a search, by point 3; the same plan for every sheet, by point
+-- 2; refusing every sheet, by points 2 and 3; an untouched buffer called a plan, by point 2; a leg count other than the legs listed, by point
+-- 2." Of any engine and any plan reader, at the worked sheets B and D and the tables that are lent there.
+-- Assumes nothing.
+use Prim.Native.Nat.{ℕ, _+_, _*_, _≤_, _<_}
+use mathlib.Core.Path.{_≡_, refl, sym, ap, ap₂, _∙_}
+use mathlib.Core.Bool.{Bool}
+use mathlib.Core.Option.{some}
+use mathlib.Core.List.{List, [], _∷_}
+use native.Mathlib.Omega.{arith}
+use lib.Dec.{T, ltb, ltb→lt}
+use lib.ListN.{length, take, drop}
+use lib.Seq.{take-at}
+use Rattle.limits.specs.Marks.{markPN}
+use Rattle.limits.specs.Refusals.{noPlan}
+use Rattle.lists.specs.Find.{allOf, all-entries}
+use Rattle.lists.specs.Listed.{listed-every}
+use Rattle.lists.specs.Over.{over, getD-over}
+use Rattle.answer.specs.Stated.{Family, Stated, plan, refused, ofSearch}
+use Rattle.sheet.specs.Fields.{Bytes, number16, number32}
+use Rattle.sheet.specs.Verdict.{good, verdict, readFor}
+use Rattle.sheet.specs.Worked.{sheetB, sheetD}
+use Rattle.sheet.specs.declared.record.Record.{Record}
+use Rattle.sheet.specs.declared.record.Record.the-variants.{BothWays, Landing}
+use Rattle.network.specs.Network.{graphOf}
+use Rattle.planfile.specs.Format.{fileBytes, fileSize, rootIn, totalIn, countIn}
+use Rattle.planfile.specs.FormatLaws.{encoding-fits, length-file}
+use Rattle.planfile.specs.Encoded.{encoding-fields}
+use Rattle.mission.specs.Runs.{EngineTables, EngineLong, Engine, Reader}
+use Rattle.mission.specs.Rule.{ByRule}
+use Rattle.mission.specs.OnePlan.{one-plan}
+use Rattle.mission.specs.PointTwo.{EngineSound, EnginePointTwo}
+use Rattle.mission.specs.PointThree.{SomeReachesAll, BufferLong, PointThree}
+use Rattle.mission.specs.PointLaws.{refused-not-plan, same-sheet}
+use Rattle.engine.specs.Engine.{Plan, planOf}
+use Rattle.engine.specs.Found.{found-reaches, sheet-plannable, sheet-found}
+use Rattle.cases.specs.Worked.{lent}
+
+-- ---- sheets B and D
+
+abbrev recordsB : List Record
+recordsB = Landing 0 0 ∷ []
+
+abbrev recordsD : List Record
+recordsD = BothWays 0 1 7 ∷ Landing 0 0 ∷ Landing 1 1 ∷ []
+
+good-B : verdict sheetB ≡ good 1 1 recordsB
+unfolding verdict readFor
+good-B = refl
+
+good-D : verdict sheetD ≡ good 2 2 recordsD
+unfolding verdict readFor
+good-D = refl
+
+-- a list is bytes where a test of each entry says so
+abbrev areBytes : List ℕ → Bool
+areBytes bytes = allOf (λ b. ltb b 256) bytes
+
+are-bytes : (bytes : List ℕ) → T (areBytes bytes) → Bytes bytes
+are-bytes bytes t = listed-every (λ (b : ℕ). b < 256) bytes (λ b i. ltb→lt b 256 (all-entries (λ b. ltb b 256) bytes t b i))
+
+bytes-B : Bytes sheetB
+bytes-B = are-bytes sheetB tt
+
+bytes-D : Bytes sheetD
+bytes-D = are-bytes sheetD tt
+
+-- the plans that the rule gives
+abbrev planB : Plan
+planB = record { root = 0; cost = 0; arcs = [] }
+
+abbrev planD : Plan
+planD = record { root = 0; cost = 7; arcs = 0 ∷ [] }
+
+plan-B : planOf (graphOf 1 1 recordsB) ≡ some planB
+unfolding planOf
+plan-B = refl
+
+plan-D : planOf (graphOf 2 2 recordsD) ≡ some planD
+unfolding planOf
+plan-D = refl
+
+-- B's site has paths to a landing of its station, and the lent tables and the buffer are long enough for B
+reaches-B : SomeReachesAll (graphOf 1 1 recordsB)
+reaches-B = found-reaches (graphOf 1 1 recordsB) (sheet-plannable sheetB bytes-B 1 1 recordsB good-B) planB plan-B
+
+long-B : EngineLong 1 1 0 lent
+long-B = record {
+  tables = record { starts = omega arith; ends = omega arith; weights = omega arith; landings = omega arith };
+  cells = omega arith;
+  marks = omega arith;
+}
+
+buffer-B : BufferLong (graphOf 1 1 recordsB) (lent .buffer)
+buffer-B root cost L rule =
+    let found = sheet-found sheetB bytes-B 1 1 recordsB good-B planB plan-B in
+    let (_, _, same) = one-plan (graphOf 1 1 recordsB) root 0 cost 0 L [] rule (found .by-rule) in
+    omega (arith, ap length same)
+
+-- ---- what a plan is
+
+-- what stands at the start of a buffer
+pub record Stands (buffer : List ℕ) (root cost count : ℕ) : Type 0 where
+  pub mark : number16 buffer 0 ≡ markPN
+  pub root-is : rootIn buffer ≡ root
+  pub total-is : totalIn buffer ≡ cost
+  pub count-is : countIn buffer ≡ count
+
+-- a field of a file that stands at the start of a buffer
+over16 : (file before : List ℕ) (at : ℕ) → at + 2 ≤ length file → number16 (over file before) at ≡ number16 file at
+over16 file before at h =
+    ap₂ (λ (a b : ℕ). a * 256 + b) (getD-over file before at 0 (omega arith)) (getD-over file before (at + 1) 0 (omega arith))
+
+over32 : (file before : List ℕ) (at : ℕ) → at + 4 ≤ length file → number32 (over file before) at ≡ number32 file at
+over32 file before at h = ap₂ (λ (a b : ℕ). a * 65536 + b) (over16 file before at (omega arith)) (over16 file before (at + 2) (omega arith))
+
+module _ (read : Reader) (sheet : List ℕ) (before after : EngineTables) (answer : Stated) (sound : EngineSound read sheet before answer after)
+    (root cost count : ℕ) (told : answer ≡ plan root cost count) where
+  -- "A plan .. return the root, total and leg count that stand in the file"
+  pub plan-stands : Stands (after .buffer) root cost count
+  plan-stands =
+      let p = sound root cost count told .holds .plan-written in
+      let f = encoding-fields (p .file) root cost (p .listed) (p .encoded) in
+      let whole : 10 ≤ length (p .file) = omega (arith, f .well-formed .size) in
+      let at : (i : ℕ) → i + 2 ≤ length (p .file) → number16 (after .buffer) i ≡ number16 (p .file) i =
+      λ i h. ap (λ (l : List ℕ). number16 l i) (p .written) ∙ over16 (p .file) (before .buffer) i h in
+      record {
+        mark = at 0 (omega arith) ∙ f .well-formed .head-mark;
+        root-is = at 2 (omega arith) ∙ f .root-is;
+        total-is = ap totalIn (p .written) ∙ over32 (p .file) (before .buffer) 4 (omega arith) ∙ f .total-is;
+        count-is = at 8 (omega arith) ∙ f .count-is ∙ p .count-is;
+      }
+
+  -- the total is that of the plan which the rule gives for the sheet
+  pub plan-total : Bytes sheet → (n k : ℕ) (records : List Record) → verdict sheet ≡ good n k records
+      → (p : Plan) → planOf (graphOf n k records) ≡ some p → cost ≡ p .cost
+  plan-total bytes n k records e p q =
+      let given = sound root cost count told in
+      let listed = given .holds .plan-written .listed in
+      let rule : ByRule (graphOf n k records) root cost listed =
+      same-sheet (λ n k records. ByRule (graphOf n k records) root cost listed) sheet (given .good-sheet) e (given .holds .plan-written .by-rule) in
+      let found = sheet-found sheet bytes n k records e p q in
+      let (_, same, _) = one-plan (graphOf n k records) root (p .root) cost (p .cost) listed (p .arcs) rule (found .by-rule) in
+      same
+
+-- ---- the worthless engines
+
+module _ (engine : Engine) (read : Reader) where
+  -- "no plan" without a search, by point 3
+  pub no-plan-shut-out : PointThree engine read → engine sheetB lent .answer ≡ refused ofSearch noPlan 0 → ⊥
+  no-plan-shut-out point told =
+      let (none-reaches, _) = point sheetB bytes-B lent .plans-or-not 1 1 recordsB good-B long-B .no-plan in
+      none-reaches told reaches-B
+
+  -- refusing every sheet: point 3 shuts it out; point 2 speaks of plans that are given, and of the plan reader, which may not refuse all files
+  pub refusing-shut-out : PointThree engine read → (family : Family) (number place : ℕ) → engine sheetB lent .answer ≡ refused family number place → ⊥
+  refusing-shut-out point family number place told =
+      let (root, cost, count, planned) = point sheetB bytes-B lent .plans-or-not 1 1 recordsB good-B long-B .plans reaches-B buffer-B in
+      refused-not-plan (sym told ∙ planned)
+
+  -- the same plan for every sheet, by point 2
+  pub same-plan-shut-out : EnginePointTwo engine read → (root cost count : ℕ)
+      → engine sheetB lent .answer ≡ plan root cost count → engine sheetD lent .answer ≡ plan root cost count → ⊥
+  same-plan-shut-out point root cost count for-B for-D =
+      omega (
+        arith,
+        plan-total read sheetB lent (engine sheetB lent .after) (engine sheetB lent .answer) (point sheetB bytes-B lent) root cost count for-B
+            bytes-B 1 1 recordsB good-B planB plan-B,
+        plan-total read sheetD lent (engine sheetD lent .after) (engine sheetD lent .answer) (point sheetD bytes-D lent) root cost count for-D
+            bytes-D 2 2 recordsD good-D planD plan-D,
+      )
+
+  -- an untouched buffer called a plan, by point 2
+  pub untouched-shut-out : EnginePointTwo engine read → (sheet : List ℕ) → Bytes sheet → (root cost count : ℕ)
+      → engine sheet lent .answer ≡ plan root cost count → engine sheet lent .after .buffer ≡ lent .buffer → ⊥
+  untouched-shut-out point sheet bytes root cost count told untouched =
+      let s = plan-stands read sheet lent (engine sheet lent .after) (engine sheet lent .answer) (point sheet bytes lent) root cost count told in
+      let marks : number16 (lent .buffer) 0 ≡ markPN = ap (λ (l : List ℕ). number16 l 0) (sym untouched) ∙ s .mark in
+      omega (arith, marks)
+
+  -- a leg count other than the legs listed, by point 2: the buffer starts with the file of as many legs as the count says
+  pub count-shut-out : EnginePointTwo engine read → (sheet : List ℕ) → Bytes sheet → (t : EngineTables) (root cost count : ℕ)
+      → engine sheet t .answer ≡ plan root cost count
+      → (L : List ℕ) × (length L ≡ count) × (take (fileSize count) (engine sheet t .after .buffer) ≡ fileBytes root cost L)
+  count-shut-out point sheet bytes t root cost count told =
+      let p = point sheet bytes t root cost count told .holds .plan-written in
+      let (_, same) = encoding-fits root cost (p .listed) (p .file) (p .encoded) in
+      let so-many : length (p .file) ≡ fileSize count =
+      ap length (sym same) ∙ length-file root cost (p .listed) ∙ ap fileSize (p .count-is) in (
+        p .listed,
+        p .count-is,
+        ap (take (fileSize count)) (p .written) ∙ take-at (p .file) (drop (length (p .file)) (t .buffer)) (fileSize count) so-many ∙ sym same,
+      )
+
+  -- and it is the count that stands in the file
+  pub count-stands : EnginePointTwo engine read → (sheet : List ℕ) → Bytes sheet → (t : EngineTables) (root cost count : ℕ)
+      → engine sheet t .answer ≡ plan root cost count → countIn (engine sheet t .after .buffer) ≡ count
+  count-stands point sheet bytes t root cost count told =
+      plan-stands read sheet t (engine sheet t .after) (engine sheet t .answer) (point sheet bytes t) root cost count told .count-is

@@ -1,0 +1,194 @@
+-- Document 01's cases A to L ("The desk program and worked sheets"): "For A to L, one proposition settles the definitions' answers together".
+-- The engine's answers to the sheets A to J and the plan reader's to the files of A, K and L, with what was lent as it is afterwards, by
+-- computation.
+-- Assumes nothing.
+use Prim.Native.Nat.{ℕ}
+use mathlib.Core.Path.{_≡_, refl}
+use mathlib.Core.Option.{Option, none, some}
+use mathlib.Core.List.{List, [], _∷_}
+use lib.ListN.{length}
+use Rattle.answer.specs.Stated.{plan, refused, ofSheet, ofSearch, ofPlanFile}
+use Rattle.sheet.specs.Verdict.{Verdict, good, bad, verdict, readFor}
+use Rattle.sheet.specs.Worked.{sheetA, sheetB, sheetC, sheetD, sheetE, sheetF, sheetG, sheetH, sheetI, sheetJ}
+use Rattle.loader.specs.Tables.{tables, loaded}
+use Rattle.network.specs.Network.{graphOf}
+use Rattle.mission.specs.Runs.{ReaderTables, readerTables, EngineTables, engineTables, run}
+use Rattle.plan_reader.specs.Reader.{fileFault, treeFault, readingOf}
+use Rattle.plan_reader.specs.Worked.{planA, planK, planL}
+use Rattle.engine.specs.Engine.{Plan, planOf, planningOf}
+
+-- ---- what is lent
+
+-- room for six legs, five sites and 33 cells, and a plan buffer of 24 bytes
+abbrev pub lent : EngineTables
+lent =
+    engineTables
+    (tables (71 ∷ 71 ∷ 71 ∷ 71 ∷ 71 ∷ 71 ∷ []) (72 ∷ 72 ∷ 72 ∷ 72 ∷ 72 ∷ 72 ∷ []) (73 ∷ 73 ∷ 73 ∷ 73 ∷ 73 ∷ 73 ∷ []) (74 ∷ 74 ∷ 74 ∷ 74 ∷ 74 ∷ []))
+    (
+    75 ∷ 75 ∷ 75 ∷ 75 ∷ 75 ∷ 75 ∷ 75 ∷ 75 ∷
+    75 ∷ 75 ∷ 75 ∷ 75 ∷ 75 ∷ 75 ∷ 75 ∷ 75 ∷
+    75 ∷ 75 ∷ 75 ∷ 75 ∷ 75 ∷ 75 ∷ 75 ∷ 75 ∷
+    75 ∷ 75 ∷ 75 ∷ 75 ∷ 75 ∷ 75 ∷ 75 ∷ 75 ∷
+    75 ∷ []
+    )
+    (76 ∷ 76 ∷ 76 ∷ 76 ∷ 76 ∷ [])
+    (
+    0xEE ∷ 0xEE ∷ 0xEE ∷ 0xEE ∷ 0xEE ∷ 0xEE ∷ 0xEE ∷ 0xEE ∷ 0xEE ∷ 0xEE ∷
+    0xEE ∷ 0xEE ∷ 0xEE ∷ 0xEE ∷ 0xEE ∷ 0xEE ∷ 0xEE ∷ 0xEE ∷ 0xEE ∷ 0xEE ∷
+    0xEE ∷ 0xEE ∷ 0xEE ∷ 0xEE ∷ []
+    )
+
+-- all of these but the cells and the buffer
+abbrev pub lentToReader : ReaderTables
+lentToReader = readerTables (lent .tables) (lent .marks)
+
+-- these with A's five legs and the stations of its four sites, and with marks
+abbrev pub afterA : List ℕ → ReaderTables
+afterA marks =
+    readerTables
+    (tables (0 ∷ 1 ∷ 1 ∷ 0 ∷ 0 ∷ 71 ∷ []) (1 ∷ 2 ∷ 3 ∷ 2 ∷ 3 ∷ 72 ∷ []) (4 ∷ 3 ∷ 3 ∷ 5 ∷ 6 ∷ 73 ∷ []) (4 ∷ 0 ∷ 1 ∷ 2 ∷ 74 ∷ []))
+    marks
+
+-- the legs of a sheet's plan, in the order in which they are added
+abbrev legsIn : Option Plan → Option (List ℕ)
+legsIn none = none
+legsIn (some p) = some (p .arcs)
+
+abbrev pub legs : Verdict → Option (List ℕ)
+legs (good n k records) = legsIn (planOf (graphOf n k records))
+legs (bad fault) = none
+
+-- ---- the cases
+
+pub settled :
+    -- "A (72 bytes)"
+    (length sheetA ≡ 72)
+    -- A: root 0, total 10, legs 0, 1 and 2. "Plan file in hexadecimal: 504E 0000 0000000A 0003 4C47 0000 4C47 0001 4C47 0002"
+    × (planningOf sheetA lent
+    ≡ run (plan 0 10 3)
+    (engineTables
+    (tables (0 ∷ 1 ∷ 1 ∷ 0 ∷ 0 ∷ 71 ∷ []) (1 ∷ 2 ∷ 3 ∷ 2 ∷ 3 ∷ 72 ∷ []) (4 ∷ 3 ∷ 3 ∷ 5 ∷ 6 ∷ 73 ∷ []) (4 ∷ 0 ∷ 1 ∷ 2 ∷ 74 ∷ []))
+    (
+    0 ∷ 5 ∷ 6 ∷ 10 ∷ 0 ∷ 5 ∷ 6 ∷ 10 ∷
+    0 ∷ 3 ∷ 3 ∷ 6 ∷ 4_294_967_295 ∷ 4_294_967_295 ∷ 4_294_967_295 ∷ 4_294_967_295 ∷
+    0 ∷ 0 ∷ 4_294_967_295 ∷ 4_294_967_295 ∷ 4_294_967_295 ∷ 4_294_967_295 ∷ 4_294_967_295 ∷ 4_294_967_295 ∷
+    0 ∷ 4_294_967_295 ∷ 0 ∷ 4_294_967_295 ∷ 4_294_967_295 ∷ 4_294_967_295 ∷ 4_294_967_295 ∷ 4_294_967_295 ∷
+    75 ∷ []
+    )
+    (1 ∷ 1 ∷ 1 ∷ 1 ∷ 76 ∷ [])
+    (
+    0x50 ∷ 0x4E ∷ 0x00 ∷ 0x00 ∷ 0x00 ∷ 0x00 ∷ 0x00 ∷ 0x0A ∷ 0x00 ∷ 0x03 ∷
+    0x4C ∷ 0x47 ∷ 0x00 ∷ 0x00 ∷ 0x4C ∷ 0x47 ∷ 0x00 ∷ 0x01 ∷ 0x4C ∷ 0x47 ∷ 0x00 ∷ 0x02 ∷
+    0xEE ∷ 0xEE ∷ []
+    )))
+    × (legs (verdict sheetA) ≡ some (0 ∷ 1 ∷ 2 ∷ []))
+    -- B: "root 0, total 0, no legs"
+    × (planningOf sheetB lent
+    ≡ run (plan 0 0 0)
+    (engineTables
+    (tables (71 ∷ 71 ∷ 71 ∷ 71 ∷ 71 ∷ 71 ∷ []) (72 ∷ 72 ∷ 72 ∷ 72 ∷ 72 ∷ 72 ∷ []) (73 ∷ 73 ∷ 73 ∷ 73 ∷ 73 ∷ 73 ∷ []) (1 ∷ 74 ∷ 74 ∷ 74 ∷ 74 ∷ []))
+    (
+    0 ∷ 0 ∷
+    75 ∷ 75 ∷ 75 ∷ 75 ∷ 75 ∷ 75 ∷ 75 ∷ 75 ∷
+    75 ∷ 75 ∷ 75 ∷ 75 ∷ 75 ∷ 75 ∷ 75 ∷ 75 ∷
+    75 ∷ 75 ∷ 75 ∷ 75 ∷ 75 ∷ 75 ∷ 75 ∷ 75 ∷
+    75 ∷ 75 ∷ 75 ∷ 75 ∷ 75 ∷ 75 ∷ 75 ∷ []
+    )
+    (1 ∷ 76 ∷ 76 ∷ 76 ∷ 76 ∷ [])
+    (
+    0x50 ∷ 0x4E ∷ 0x00 ∷ 0x00 ∷ 0x00 ∷ 0x00 ∷ 0x00 ∷ 0x00 ∷ 0x00 ∷ 0x00 ∷
+    0xEE ∷ 0xEE ∷ 0xEE ∷ 0xEE ∷ 0xEE ∷ 0xEE ∷ 0xEE ∷ 0xEE ∷ 0xEE ∷ 0xEE ∷ 0xEE ∷ 0xEE ∷
+    0xEE ∷ 0xEE ∷ []
+    )))
+    × (legs (verdict sheetB) ≡ some [])
+    -- C: "root 0, leg 1, total 4"
+    × (planningOf sheetC lent
+    ≡ run (plan 0 4 1)
+    (engineTables
+    (tables (0 ∷ 0 ∷ 71 ∷ 71 ∷ 71 ∷ 71 ∷ []) (1 ∷ 2 ∷ 72 ∷ 72 ∷ 72 ∷ 72 ∷ []) (9 ∷ 4 ∷ 73 ∷ 73 ∷ 73 ∷ 73 ∷ []) (1 ∷ 2 ∷ 2 ∷ 74 ∷ 74 ∷ []))
+    (
+    0 ∷ 0 ∷ 4 ∷ 4 ∷
+    0 ∷ 4_294_967_295 ∷ 0 ∷ 4_294_967_295 ∷
+    0 ∷ 4_294_967_295 ∷ 0 ∷ 4_294_967_295 ∷
+    75 ∷ 75 ∷ 75 ∷ 75 ∷ 75 ∷ 75 ∷ 75 ∷ 75 ∷
+    75 ∷ 75 ∷ 75 ∷ 75 ∷ 75 ∷ 75 ∷ 75 ∷ 75 ∷
+    75 ∷ 75 ∷ 75 ∷ 75 ∷ 75 ∷ []
+    )
+    (1 ∷ 1 ∷ 1 ∷ 76 ∷ 76 ∷ [])
+    (
+    0x50 ∷ 0x4E ∷ 0x00 ∷ 0x00 ∷ 0x00 ∷ 0x00 ∷ 0x00 ∷ 0x04 ∷ 0x00 ∷ 0x01 ∷
+    0x4C ∷ 0x47 ∷ 0x00 ∷ 0x01 ∷
+    0xEE ∷ 0xEE ∷ 0xEE ∷ 0xEE ∷ 0xEE ∷ 0xEE ∷ 0xEE ∷ 0xEE ∷ 0xEE ∷ 0xEE ∷ []
+    )))
+    × (legs (verdict sheetC) ≡ some (1 ∷ []))
+    -- D: "root 0, leg 0, total 7"
+    × (planningOf sheetD lent
+    ≡ run (plan 0 7 1)
+    (engineTables
+    (tables (0 ∷ 1 ∷ 71 ∷ 71 ∷ 71 ∷ 71 ∷ []) (1 ∷ 0 ∷ 72 ∷ 72 ∷ 72 ∷ 72 ∷ []) (7 ∷ 7 ∷ 73 ∷ 73 ∷ 73 ∷ 73 ∷ []) (1 ∷ 2 ∷ 74 ∷ 74 ∷ 74 ∷ []))
+    (
+    0 ∷ 0 ∷ 7 ∷ 7 ∷
+    0 ∷ 7 ∷ 0 ∷ 7 ∷
+    75 ∷ 75 ∷ 75 ∷ 75 ∷ 75 ∷ 75 ∷ 75 ∷ 75 ∷
+    75 ∷ 75 ∷ 75 ∷ 75 ∷ 75 ∷ 75 ∷ 75 ∷ 75 ∷
+    75 ∷ 75 ∷ 75 ∷ 75 ∷ 75 ∷ 75 ∷ 75 ∷ 75 ∷
+    75 ∷ []
+    )
+    (1 ∷ 1 ∷ 76 ∷ 76 ∷ 76 ∷ [])
+    (
+    0x50 ∷ 0x4E ∷ 0x00 ∷ 0x00 ∷ 0x00 ∷ 0x00 ∷ 0x00 ∷ 0x07 ∷ 0x00 ∷ 0x01 ∷
+    0x4C ∷ 0x47 ∷ 0x00 ∷ 0x00 ∷
+    0xEE ∷ 0xEE ∷ 0xEE ∷ 0xEE ∷ 0xEE ∷ 0xEE ∷ 0xEE ∷ 0xEE ∷ 0xEE ∷ 0xEE ∷ []
+    )))
+    × (legs (verdict sheetD) ≡ some (0 ∷ []))
+    -- E: "12", with the tables as after a plan and the plan buffer untouched
+    × (planningOf sheetE lent
+    ≡ run (refused ofSearch 12 0)
+    (engineTables
+    (tables (71 ∷ 71 ∷ 71 ∷ 71 ∷ 71 ∷ 71 ∷ []) (72 ∷ 72 ∷ 72 ∷ 72 ∷ 72 ∷ 72 ∷ []) (73 ∷ 73 ∷ 73 ∷ 73 ∷ 73 ∷ 73 ∷ []) (1 ∷ 2 ∷ 74 ∷ 74 ∷ 74 ∷ []))
+    (
+    0 ∷ 0 ∷ 4_294_967_295 ∷ 4_294_967_295 ∷
+    0 ∷ 4_294_967_295 ∷ 0 ∷ 4_294_967_295 ∷
+    75 ∷ 75 ∷ 75 ∷ 75 ∷ 75 ∷ 75 ∷ 75 ∷ 75 ∷
+    75 ∷ 75 ∷ 75 ∷ 75 ∷ 75 ∷ 75 ∷ 75 ∷ 75 ∷
+    75 ∷ 75 ∷ 75 ∷ 75 ∷ 75 ∷ 75 ∷ 75 ∷ 75 ∷
+    75 ∷ []
+    )
+    (1 ∷ 1 ∷ 76 ∷ 76 ∷ 76 ∷ [])
+    (
+    0xEE ∷ 0xEE ∷ 0xEE ∷ 0xEE ∷ 0xEE ∷ 0xEE ∷ 0xEE ∷ 0xEE ∷ 0xEE ∷ 0xEE ∷ 0xEE ∷ 0xEE ∷
+    0xEE ∷ 0xEE ∷ 0xEE ∷ 0xEE ∷ 0xEE ∷ 0xEE ∷ 0xEE ∷ 0xEE ∷ 0xEE ∷ 0xEE ∷ 0xEE ∷ 0xEE ∷ []
+    )))
+    × (legs (verdict sheetE) ≡ none)
+    -- F: "7 at 5"
+    × (planningOf sheetF lent ≡ run (refused ofSheet 7 5) lent)
+    -- G: "planned"
+    × (planningOf sheetG lent
+    ≡ run (plan 0 1_000_000 1)
+    (engineTables
+    (tables (0 ∷ 1 ∷ 71 ∷ 71 ∷ 71 ∷ 71 ∷ []) (1 ∷ 0 ∷ 72 ∷ 72 ∷ 72 ∷ 72 ∷ []) (1_000_000 ∷ 1_000_000 ∷ 73 ∷ 73 ∷ 73 ∷ 73 ∷ []) (1 ∷ 2 ∷ 74 ∷ 74 ∷ 74 ∷ []))
+    (
+    0 ∷ 0 ∷ 1_000_000 ∷ 1_000_000 ∷
+    0 ∷ 1_000_000 ∷ 0 ∷ 1_000_000 ∷
+    75 ∷ 75 ∷ 75 ∷ 75 ∷ 75 ∷ 75 ∷ 75 ∷ 75 ∷
+    75 ∷ 75 ∷ 75 ∷ 75 ∷ 75 ∷ 75 ∷ 75 ∷ 75 ∷
+    75 ∷ 75 ∷ 75 ∷ 75 ∷ 75 ∷ 75 ∷ 75 ∷ 75 ∷
+    75 ∷ []
+    )
+    (1 ∷ 1 ∷ 76 ∷ 76 ∷ 76 ∷ [])
+    (
+    0x50 ∷ 0x4E ∷ 0x00 ∷ 0x00 ∷ 0x00 ∷ 0x0F ∷ 0x42 ∷ 0x40 ∷ 0x00 ∷ 0x01 ∷
+    0x4C ∷ 0x47 ∷ 0x00 ∷ 0x00 ∷
+    0xEE ∷ 0xEE ∷ 0xEE ∷ 0xEE ∷ 0xEE ∷ 0xEE ∷ 0xEE ∷ 0xEE ∷ 0xEE ∷ 0xEE ∷ []
+    )))
+    × (legs (verdict sheetG) ≡ some (0 ∷ []))
+    -- H: "7 at 5"; I: "1 at 0"; J: "9 at 12"
+    × (planningOf sheetH lent ≡ run (refused ofSheet 7 5) lent)
+    × (planningOf sheetI lent ≡ run (refused ofSheet 1 0) lent)
+    × (planningOf sheetJ lent ≡ run (refused ofSheet 9 12) lent)
+    -- A's own file is accepted; K: "17"; L: "19"
+    × (readingOf sheetA planA lentToReader ≡ run (plan 0 10 3) (afterA (1 ∷ 1 ∷ 1 ∷ 1 ∷ 76 ∷ [])))
+    × (readingOf sheetA planK lentToReader ≡ run (refused ofPlanFile 17 0) (afterA (1 ∷ 1 ∷ 1 ∷ 1 ∷ 76 ∷ [])))
+    × (readingOf sheetA planL lentToReader ≡ run (refused ofPlanFile 19 0) (afterA (1 ∷ 1 ∷ 1 ∷ 1 ∷ 76 ∷ [])))
+unfolding verdict readFor loaded planOf fileFault treeFault
+settled = (refl, refl, refl, refl, refl, refl, refl, refl, refl, refl, refl, refl, refl, refl, refl, refl, refl, refl, refl, refl)

@@ -1,0 +1,1 @@
+// No code: document 01's cases A to L, in specs/.

@@ -1,0 +1,263 @@
+-- The plan as the code finds it: from the root and the cells of a finished cost table, and what is sent back of it with the plan buffer. The
+-- tables themselves stay as the search left them.
+-- Assumes nothing.
+use Prim.Native.Nat.{ℕ, _+_, _-_, _*_, _^_, _≤_, _<_}
+use mathlib.Core.Path.{_≡_, refl, sym, ap, ap₂, _∙_, subst}
+use mathlib.Core.Logic.{_≢_}
+use mathlib.Core.Bool.{Bool, true, false, cond}
+use mathlib.Core.Option.{Option, none, some}
+use mathlib.Core.List.{List}
+use native.Mathlib.Omega.{arith}
+use lib.Arith.{digits-lt}
+use lib.Dec.{T, eqb, eqb→eq, leb}
+use lib.ListN.{length, take, drop}
+use lib.Pow.{ones-lt}
+use lib.Seq.{take-at}
+use Rattle.limits.specs.Limits.{maxNodes, maxArcs, noCost}
+use Rattle.limits.specs.Refusals.{noPlan, shortBuffer}
+use Rattle.lists.specs.Every.{every-imp}
+use Rattle.lists.specs.Find.{all-at, all-of}
+use Rattle.lists.specs.Over.{over, length-over, getD-over}
+use Rattle.lists.specs.Tests.{by-test, true-fact, fact-true, eq-fact}
+use Rattle.subset.specs.Sets.{full}
+use Rattle.subset.specs.Parts.{full-ne}
+use Rattle.answer.specs.Stated.{Stated, plan, refused, ofTables, ofSearch}
+use Rattle.graph.specs.Graph.{Graph}
+use Rattle.graph.specs.InTables.{graphIn}
+use Rattle.graph.specs.LeastTotals.{leastCell, IsCostTable, Room}
+use Rattle.graph.specs.Layout.{rootOf, layout}
+use Rattle.graph.specs.Theorems.{layout-is-least, root-rule, same-root, same-layout}
+use Rattle.table.specs.Cells.{cellIn, costTable}
+use Rattle.table.specs.Rows.{length-cells, cell-of}
+use Rattle.loader.specs.Tables.{Tables}
+use Rattle.planfile.specs.Format.{fileBytes, fileSize}
+use Rattle.planfile.specs.FormatLaws.{Fits, fits-encoding, length-file}
+use Rattle.planfile.specs.Writing.{Writing, writing, writtenOver, writingOf}
+use Rattle.planfile.specs.declared.write.Written.{Written}
+use Rattle.planfile.specs.declared.write.Written.the-variants.{File, ShortBuffer, NoFile}
+use Rattle.layout.specs.Plan.{laid, Ready}
+use Rattle.layout.specs.Root.{IsRoot}
+use Rattle.search.specs.Whole.{Searchable}
+use Rattle.mission.specs.Runs.{engineTables, run}
+use Rattle.engine.specs.Engine.{fullCell, Plan, planWith, allNone, planAt, planUnless, planOf, written, sentBack}
+use Rattle.engine.specs.Laid.{Plannable}
+use Rattle.engine.specs.Found.{full-capped}
+
+-- a plan or none is sent back, with the plan buffer as it then is, whatever the other tables hold
+pub record SentBack (o : Option Plan) (answer : Stated) (before after : List ℕ) : Type 0 where
+  pub sent : (t : Tables) (cells marks : List ℕ) → run answer (engineTables t cells marks after) ≡ sentBack o (engineTables t cells marks before)
+
+-- ---- the file
+
+module _ (root total : ℕ) (arcs buffer : List ℕ) where
+  -- what a writing gave, by number
+  abbrev kindOf : Written → ℕ
+  kindOf (File size) = 0
+  kindOf ShortBuffer = 1
+  kindOf NoFile = 2
+
+  abbrev kind : Writing → ℕ
+  kind (writing w after) = kindOf w
+
+  abbrev bufferOf : Writing → List ℕ
+  bufferOf (writing w after) = after
+
+  module _ (f : Fits root total arcs) (w : Written) (after : List ℕ) (e : writing w after ≡ writingOf root total arcs buffer) where
+    -- by the test of the lengths
+    by-length : (b : Bool) → leb (length (fileBytes root total arcs)) (length buffer) ≡ b
+        → writing w after ≡ cond b (writing (File (length (fileBytes root total arcs))) (over (fileBytes root total arcs) buffer)) (writing ShortBuffer buffer)
+    by-length b q =
+        e ∙ ap (λ (o : Option (List ℕ)). writtenOver o buffer) (fits-encoding root total arcs f)
+        ∙ ap (λ (c : Bool). cond c (writing (File (length (fileBytes root total arcs))) (over (fileBytes root total arcs) buffer))
+        (writing ShortBuffer buffer)) q
+
+    test-is : leb (fileSize (length arcs)) (length buffer) ≡ leb (length (fileBytes root total arcs)) (length buffer)
+    test-is = ap (λ (x : ℕ). leb x (length buffer)) (sym (length-file root total arcs))
+
+    pub sent-file : (size : ℕ) → w ≡ File size → SentBack (some (planWith root total arcs)) (plan root total (length arcs)) buffer after
+    sent-file size is = record { sent = λ t cells marks. go t cells marks (leb (length (fileBytes root total arcs)) (length buffer)) refl }
+      where
+        go : (t : Tables) (cells marks : List ℕ) (b : Bool) → leb (length (fileBytes root total arcs)) (length buffer) ≡ b
+            → run (plan root total (length arcs)) (engineTables t cells marks after) ≡ sentBack (some (planWith root total arcs))
+            (engineTables t cells marks buffer)
+        go t cells marks true q =
+            ap (λ (x : List ℕ). run (plan root total (length arcs)) (engineTables t cells marks x)) (ap bufferOf (by-length true q))
+            ∙ sym (ap (λ (c : Bool). written c (planWith root total arcs) (engineTables t cells marks buffer)) (test-is ∙ q))
+        go t cells marks false q = let z : _≡_ {A = ℕ} 0 1 = ap kindOf (sym is) ∙ ap kind (by-length false q) in absurd (omega arith)
+
+    pub sent-short : w ≡ ShortBuffer → SentBack (some (planWith root total arcs)) (refused ofTables shortBuffer 0) buffer after
+    sent-short is = record { sent = λ t cells marks. go t cells marks (leb (length (fileBytes root total arcs)) (length buffer)) refl }
+      where
+        go : (t : Tables) (cells marks : List ℕ) (b : Bool) → leb (length (fileBytes root total arcs)) (length buffer) ≡ b
+            → run (refused ofTables shortBuffer 0) (engineTables t cells marks after) ≡ sentBack (some (planWith root total arcs))
+            (engineTables t cells marks buffer)
+        go t cells marks true q = let z : _≡_ {A = ℕ} 1 0 = ap kindOf (sym is) ∙ ap kind (by-length true q) in absurd (omega arith)
+        go t cells marks false q =
+            ap (λ (x : List ℕ). run (refused ofTables shortBuffer 0) (engineTables t cells marks x)) (ap bufferOf (by-length false q))
+            ∙ sym (ap (λ (c : Bool). written c (planWith root total arcs) (engineTables t cells marks buffer)) (test-is ∙ q))
+
+    -- every number of a plan fits
+    pub never-none : w ≡ NoFile → ⊥
+    never-none is = go (leb (length (fileBytes root total arcs)) (length buffer)) refl
+      where
+        go : (b : Bool) → leb (length (fileBytes root total arcs)) (length buffer) ≡ b → ⊥
+        go true q = let z : _≡_ {A = ℕ} 2 0 = ap kindOf (sym is) ∙ ap kind (by-length true q) in omega arith
+        go false q = let z : _≡_ {A = ℕ} 2 1 = ap kindOf (sym is) ∙ ap kind (by-length false q) in omega arith
+
+-- ---- the plan of the cells
+
+-- tables that hold a graph within the limits of a sheet, and its finished cost table
+pub record FinishedSheet (n k m : ℕ) (starts ends weights landings cells : List ℕ) : Type 0 where
+  pub some-node : 1 ≤ n
+  pub few-nodes : n ≤ maxNodes
+  pub few-arcs : m ≤ maxArcs
+  pub ready : Ready n k m starts ends weights landings cells
+
+module _ {n k m : ℕ} {starts ends weights landings cells : List ℕ} (F : FinishedSheet n k m starts ends weights landings cells) where
+  abbrev G : Graph
+  G = graphIn n k m starts ends weights landings
+
+  table : IsCostTable G (cellIn cells (2 ^ k)) noCost
+  table = F .ready .finished .table
+
+  plannable : Plannable G
+  plannable = record {
+    sound = F .ready .finished .sound;
+    room = F .ready .finished .room;
+    some-terminal = F .ready .some-terminal;
+    uncharged = λ v. refl;
+    any-root = λ v. tt;
+  }
+
+  -- the cell of the full set, as it is read
+  pub of-full : (root w cost : ℕ) → cost ≡ cellIn cells (2 ^ k) root w → w ≡ full k → cost ≡ cellIn cells (2 ^ k) root (full k)
+  of-full root w cost e q = e ∙ ap (cellIn cells (2 ^ k) root) q
+
+  module _ (root : ℕ) (is : IsRoot n k cells root) where
+    root-is : rootOf G (leastCell G noCost) ≡ some root
+    root-is = sym (same-root G (cellIn cells (2 ^ k)) (leastCell G noCost) table) ∙ is m starts ends weights landings
+
+    pub root-lt : root < n
+    root-lt = root-rule G (leastCell G noCost) root root-is .node
+
+    pub full-lt : root * 2 ^ k + full k < length cells
+    full-lt = let l = digits-lt root-lt (ones-lt k) in omega (arith, F .ready .long-cells)
+
+    cell-is : cellIn cells (2 ^ k) root (full k) ≡ fullCell G root
+    cell-is = table root (full k) root-lt (ones-lt k)
+
+    -- 12
+    pub none-sent : (cost : ℕ) → cost ≡ cellIn cells (2 ^ k) root (full k) → cost ≡ noCost → (buffer : List ℕ)
+        → SentBack (planOf G) (refused ofSearch noPlan 0) buffer buffer
+    unfolding planOf
+    none-sent cost of-root none-here buffer = record { sent = λ t c marks. sym (ap (λ (o : Option Plan). sentBack o (engineTables t c marks buffer)) no-plan) }
+      where
+        each : (v : ℕ) → v < n → T (eqb (fullCell G v) noCost)
+        each v on =
+            let same : fullCell G v ≡ noCost = omega (arith, cell-is, root-rule G (leastCell G noCost) root root-is .cheapest v on tt, full-capped G plannable v on) in
+            eq-fact same
+
+        no-plan : planOf G ≡ none
+        no-plan = ap (λ (b : Bool). planUnless b G) (fact-true {b = allNone G} (all-of (λ v. eqb (fullCell G v) noCost) n each))
+
+    module _ (cost : ℕ) (of-root : cost ≡ cellIn cells (2 ^ k) root (full k)) (some-cost : cost ≢ noCost) where
+      pub finite : cellIn cells (2 ^ k) root (full k) < noCost
+      finite = omega (arith, cell-is, full-capped G plannable root root-lt)
+
+      arcs-are : laid G cells root (full k) ≡ layout G (leastCell G noCost) noCost root (full k)
+      arcs-are = same-layout G (plannable .sound) (cellIn cells (2 ^ k)) (leastCell G noCost) noCost table root (full k) root-lt (ones-lt k)
+
+      plan-is : planOf G ≡ some (planWith root cost (laid G cells root (full k)))
+      unfolding planOf
+      plan-is =
+          ap (λ (b : Bool). planUnless b G) some-finite ∙ ap (planAt G) root-is
+          ∙ ap₂ (λ (x : ℕ) (l : List ℕ). some (planWith root x l)) (sym (of-root ∙ cell-is)) (sym arcs-are)
+        where
+          some-finite : allNone G ≡ false
+          some-finite =
+              by-test (allNone G) (λ b. b ≡ false)
+              (λ q. absurd (some-cost (of-root ∙ cell-is ∙ eqb→eq (fullCell G root) noCost
+              (all-at (λ v. eqb (fullCell G v) noCost) n (true-fact q) root root-lt))))
+              (λ q. refl)
+
+      -- at most one arc for each node but the root
+      pub few-laid : {count : ℕ} → count ≡ length (laid G cells root (full k)) → count ≤ n - 1
+      few-laid counted =
+          omega (
+            arith,
+            layout-is-least G (plannable .sound) noCost (plannable .room) (cellIn cells (2 ^ k)) table root (full k) root-lt
+                (full-ne k (F .ready .some-terminal)) (ones-lt k) finite .few,
+          )
+
+      -- the numbers of the plan fit its file
+      module _ (legs out : List ℕ) (count : ℕ) (laid-out : out ≡ over (laid G cells root (full k)) legs)
+          (counted : count ≡ length (laid G cells root (full k))) where
+        pub taken : take count out ≡ laid G cells root (full k)
+        taken =
+            ap (take count) laid-out
+            ∙ take-at (laid G cells root (full k)) (drop (length (laid G cells root (full k))) legs) count (sym counted)
+
+        pub plan-fits : root < 2 ^ 16 → Fits root cost (take count out)
+        plan-fits small =
+            subst (Fits root cost) (sym taken)
+            (let least = layout-is-least G (plannable .sound) noCost (plannable .room) (cellIn cells (2 ^ k)) table root (full k) root-lt
+            (full-ne k (F .ready .some-terminal)) (ones-lt k) finite in
+            record {
+              root-fits = small;
+              total-fits = omega (arith, finite);
+              count-fits = omega (arith, least .few, F .few-nodes);
+              arcs-fit = every-imp (λ e. e < m) (λ e. e < 2 ^ 16) (λ e on. omega (arith, F .few-arcs)) (laid G cells root (full k)) (least .subtree .on-graph);
+            })
+
+        pub plan-sent : {answer : Stated} {before after : List ℕ} → SentBack (some (planWith root cost (take count out))) answer before after
+            → SentBack (planOf G) answer before after
+        plan-sent {answer} {before} {after} done = record {
+          sent = λ t c marks.
+              done .sent t c marks
+              ∙ ap (λ (l : List ℕ). sentBack (some (planWith root cost l)) (engineTables t c marks before)) taken
+              ∙ sym (ap (λ (o : Option Plan). sentBack o (engineTables t c marks before)) plan-is);
+        }
+
+-- ---- over loaded tables
+
+-- tables that hold a graph within the limits of a sheet, with room for its cost table and its marks
+pub record LoadedSheet (n k m : ℕ) (starts ends weights landings cells marks : List ℕ) : Type 0 where
+  pub searchable : Searchable n k m starts ends weights landings
+  pub some-node : 1 ≤ n
+  pub some-terminal : 1 ≤ k
+  pub few-arcs : m ≤ maxArcs
+  pub room : Room (graphIn n k m starts ends weights landings) noCost
+  pub cells-long : n * 2 ^ k ≤ length cells
+  pub marks-long : n ≤ length marks
+
+-- the table that the search leaves is finished
+pub search-finishes : {n k m : ℕ} {starts ends weights landings cells marks after : List ℕ} → LoadedSheet n k m starts ends weights landings cells marks
+    → after ≡ over (costTable (graphIn n k m starts ends weights landings) noCost) cells → FinishedSheet n k m starts ends weights landings after
+search-finishes {n} {k} {m} {starts} {ends} {weights} {landings} {cells} {marks} {after} L e = record {
+  some-node = L .some-node;
+  few-nodes = L .searchable .few-nodes;
+  few-arcs = L .few-arcs;
+  ready = record {
+    some-terminal = L .some-terminal;
+    terminals = L .searchable .few-terminals;
+    long-starts = L .searchable .starts-long;
+    long-ends = L .searchable .ends-long;
+    long-weights = L .searchable .weights-long;
+    long-landings = L .searchable .landings-long;
+    long-cells = omega (arith, ap length e, length-over table cells (omega (arith, so-many, L .cells-long)), L .cells-long);
+    finished = record { sound = L .searchable .sound; room = L .room; table = held };
+  };
+}
+  where
+    table : List ℕ
+    table = costTable (graphIn n k m starts ends weights landings) noCost
+
+    so-many : length (costTable (graphIn n k m starts ends weights landings) noCost) ≡ n * 2 ^ k
+    so-many = length-cells n (2 ^ k) (leastCell (graphIn n k m starts ends weights landings) noCost)
+
+    held : IsCostTable (graphIn n k m starts ends weights landings) (cellIn after (2 ^ k)) noCost
+    held v w on small =
+        let l = digits-lt on small in
+        ap (λ (x : List ℕ). cellIn x (2 ^ k) v w) e
+        ∙ getD-over (costTable (graphIn n k m starts ends weights landings) noCost) cells (v * 2 ^ k + w) 0 (omega (arith, so-many))
+        ∙ cell-of n (2 ^ k) (leastCell (graphIn n k m starts ends weights landings) noCost) v w on small

@@ -1,0 +1,3 @@
+// The engine: the planning entry point, from a sheet to the plan file.
+pub mod best;
+pub mod planning;
