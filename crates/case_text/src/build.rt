@@ -32,3 +32,24 @@ pub fn put_times(buffer: &mut [u8], at: usize, record: &[u8], count: usize) -> u
     }
     next
 }
+
+// A number of two bytes.
+pub fn put_number(buffer: &mut [u8], at: usize, number: u16) -> usize
+    requires { ⌜ at ≤ length (now buffer) ⌝ }
+    ensures { λ r. ⌜ r ≤ length (now (buffer .exit)) ⌝ }
+{
+    let bytes = [(number / 256) as u8, (number % 256) as u8];
+    put(buffer, at, &bytes)
+}
+
+// The record of a leg.
+pub fn put_link(sheet: &mut [u8], at: usize, start: u16, end: u16, weight: u32) -> usize
+    requires { ⌜ at ≤ length (now sheet) ⌝ }
+    ensures { λ r. ⌜ r ≤ length (now (sheet .exit)) ⌝ }
+{
+    let marked = put(sheet, at, b"LK");
+    let started = put_number(sheet, marked, start);
+    let ended = put_number(sheet, started, end);
+    let high = put_number(sheet, ended, (weight / 65536) as u16);
+    put_number(sheet, high, (weight % 65536) as u16)
+}

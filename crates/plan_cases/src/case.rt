@@ -1,30 +1,12 @@
 // A case: its name, the answer to its plan file, and all entries of the lent tables afterwards.
 // The tables that are printed are lent with values that no sheet has.
-use answer::Answer;
 use case_text::names::print_name;
 use case_text::tables::print_entries;
 use case_text::tables::print_marks;
 use case_text::tables::print_weights;
 use plan_reader::read::read_plan;
-use sheet_text::print;
-use sheet_text::print_field;
-use sheet_text::print_refusal;
+use sheet_text::print_answer;
 ghost use Prim.Native.Nat.{_≤_};
-
-fn print_accepted(root: u16, total: u64, arcs: u16) {
-    print_field(b"accepted root ", root as u64);
-    print_field(b" total ", total);
-    print_field(b" legs ", arcs as u64);
-    print(b"\n");
-}
-
-// The root, the total and the leg count of an accepted file, or the number and the place of the refusal.
-fn print_answer(answer: Answer) {
-    match answer {
-        Answer::Plan { root, total, arcs } => print_accepted(root, total, arcs),
-        Answer::Refused(refusal) => print_refusal(refusal),
-    }
-}
 
 fn print_tables(
     starts: &[u16; 8],
@@ -68,7 +50,7 @@ pub fn show_lent(
         &mut marks[..mark_count],
     );
     print_name(name);
-    print_answer(answer);
+    print_answer(b"accepted", answer);
     print_tables(&starts, &ends, &weights, &landings, &marks);
 }
 
@@ -94,5 +76,5 @@ pub fn show_answer(name: &[u8], sheet: &[u8], file: &[u8]) {
         &mut marks,
     );
     print_name(name);
-    print_answer(answer);
+    print_answer(b"accepted", answer);
 }

@@ -2,31 +2,13 @@
 // The files list the legs in reverse order, so that a pass over them from the first to the last reaches one site more.
 use crate::case::show_answer;
 use case_text::build::put;
+use case_text::build::put_link;
 use case_text::build::put_times;
-ghost use Prim.Native.Nat.{_<_, _≤_};
+ghost use Prim.Native.Nat.{_≤_};
 ghost use lib.ListN.{length};
 ghost use Rattle.io.specs.Counts.{Counts};
 
 const ARCS: u16 = 1023;
-
-fn put_number(buffer: &mut [u8], at: usize, number: u16) -> usize
-    requires { ⌜ at ≤ length (now buffer) ⌝ }
-    ensures { λ r. ⌜ r ≤ length (now (buffer .exit)) ⌝ }
-{
-    let bytes = [(number / 256) as u8, (number % 256) as u8];
-    put(buffer, at, &bytes)
-}
-
-// The leg from a site to the next one.
-fn put_link(sheet: &mut [u8], at: usize, start: u16) -> usize
-    requires { ⌜ (at ≤ length (now sheet)) × (start < 65535) ⌝ }
-    ensures { λ r. ⌜ r ≤ length (now (sheet .exit)) ⌝ }
-{
-    let marked = put(sheet, at, b"LK");
-    let started = put_number(sheet, marked, start);
-    let ended = put_number(sheet, started, start + 1);
-    put(sheet, ended, b"\x00\x0f\x42\x40")
-}
 
 // The legs in the order of the sites.
 fn put_links(sheet: &mut [u8], at: usize) -> usize
@@ -36,7 +18,7 @@ fn put_links(sheet: &mut [u8], at: usize) -> usize
     let mut next = at;
     let mut e = 0;
     while e < ARCS {
-        next = put_link(sheet, next, e);
+        next = put_link(sheet, next, e, e + 1, 1000000);
         e += 1;
     }
     next

@@ -1,5 +1,6 @@
-// What a loading of a sheet gave, as text on standard output: the verdict, the legs and the stations of each site.
+// What a loading of a sheet gave, as text on standard output: the verdict, the legs and the stations of each site. An answer, as text.
 // Every line ends in a line feed. Where a table is shorter than the counts say, only what it holds is written.
+use answer::Answer;
 use answer::Refusal;
 use answer::code_of;
 use libc::STDOUT_FILENO;
@@ -30,6 +31,22 @@ pub fn print_refusal(refusal: Refusal) {
     print_field(b"refused ", code.number as u64);
     print_field(b" at ", code.place as u64);
     print(b"\n");
+}
+
+fn print_plan(word: &[u8], root: u16, total: u64, arcs: u16) {
+    print(word);
+    print_field(b" root ", root as u64);
+    print_field(b" total ", total);
+    print_field(b" legs ", arcs as u64);
+    print(b"\n");
+}
+
+// A word and the root, the total and the leg count of a plan, or the number and the place of the refusal.
+pub fn print_answer(word: &[u8], answer: Answer) {
+    match answer {
+        Answer::Plan { root, total, arcs } => print_plan(word, root, total, arcs),
+        Answer::Refused(refusal) => print_refusal(refusal),
+    }
 }
 
 fn print_arc(i: usize, start: u16, end: u16, weight: u32) {

@@ -41,6 +41,9 @@ read-plan-requires c κs = search needs
 print-name-requires : tie.Need-print-name-requires
 print-name-requires c κs = search needs
 
+slice-aggregate-print-answer : tie.Need-slice-aggregate-print-answer
+slice-aggregate-print-answer c = search needs
+
 print-answer-requires : tie.Need-print-answer-requires
 print-answer-requires c κs = search needs
 
@@ -66,6 +69,7 @@ show-lent-spec =
     slice-aggregate-read-plan-5
     read-plan-requires
     print-name-requires
+    slice-aggregate-print-answer
     print-answer-requires
     print-tables-requires
     returns)

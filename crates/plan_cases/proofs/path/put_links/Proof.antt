@@ -16,6 +16,9 @@ abbrev μ-loop : tie.MeasureT-loop
 loop-holds : tie.Need-loop-holds Inv-loop μ-loop
 loop-holds c = search needs
 
+add-put-link : tie.Need-add-put-link Inv-loop μ-loop
+add-put-link c = search needs
+
 put-link-requires : tie.Need-put-link-requires Inv-loop μ-loop
 put-link-requires c κs = search needs
 
@@ -41,6 +44,7 @@ put-links-spec =
     Inv-loop
     μ-loop
     loop-holds
+    add-put-link
     put-link-requires
     add-e
     loop-less
