@@ -39,7 +39,7 @@ abbrev pub SomeReachesAll : Graph → Type 0
 SomeReachesAll G = (v : ℕ) × (v < G .nodes) × ReachesAll G v
 
 -- "The plan buffer is long enough when it has at least as many bytes as the file of the plan laid out below": the plan by the stated rule, of
--- which there is one (`one-plan` in OnePlan.antt). Nothing else of point 3 speaks of the rule.
+-- which there is one (`one-plan` in OnePlan.antt). Only this, and 13 below, speak of the rule.
 abbrev pub BufferLong : Graph → List ℕ → Type 0
 BufferLong G buffer = (root cost : ℕ) (L : List ℕ) → ByRule G root cost L → fileSize (length L) ≤ length buffer
 
