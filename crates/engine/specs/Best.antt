@@ -36,7 +36,8 @@ use Rattle.planfile.specs.Writing.{Writing, writing, writtenOver, writingOf}
 use Rattle.planfile.specs.declared.write.Written.{Written}
 use Rattle.planfile.specs.declared.write.Written.the-variants.{File, ShortBuffer, NoFile}
 use Rattle.layout.specs.Plan.{laid, Ready}
-use Rattle.layout.specs.Root.{IsRoot}
+use Rattle.layout.specs.Root.{fullCellIn, LowestTo}
+use Rattle.layout.specs.Roots.{lowest-root}
 use Rattle.search.specs.Whole.{Searchable}
 use Rattle.mission.specs.Runs.{engineTables, run}
 use Rattle.engine.specs.Engine.{fullCell, Plan, planWith, allNone, planAt, planUnless, planOf, written, sentBack}
@@ -133,9 +134,9 @@ module _ {n k m : ℕ} {starts ends weights landings cells : List ℕ} (F : Fini
   pub of-full : (root w cost : ℕ) → cost ≡ cellIn cells (2 ^ k) root w → w ≡ full k → cost ≡ cellIn cells (2 ^ k) root (full k)
   of-full root w cost e q = e ∙ ap (cellIn cells (2 ^ k) root) q
 
-  module _ (root : ℕ) (is : IsRoot n k cells root) where
+  module _ (root : ℕ) (is : LowestTo (fullCellIn k cells) n root) where
     root-is : rootOf G (leastCell G noCost) ≡ some root
-    root-is = sym (same-root G (cellIn cells (2 ^ k)) (leastCell G noCost) table) ∙ is m starts ends weights landings
+    root-is = sym (same-root G (cellIn cells (2 ^ k)) (leastCell G noCost) table) ∙ lowest-root n k m starts ends weights landings cells root is
 
     pub root-lt : root < n
     root-lt = root-rule G (leastCell G noCost) root root-is .node

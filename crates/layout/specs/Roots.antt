@@ -3,6 +3,7 @@
 use Prim.Native.Nat.{ℕ, _+_, _*_, _^_, _≤_, _<_}
 use mathlib.Core.Path.{_≡_, sym, ap, ap₂, _∙_, subst}
 use mathlib.Core.Bool.{Bool, cond}
+use mathlib.Core.Option.{some}
 use mathlib.Core.List.{List}
 use native.Mathlib.Omega.{arith}
 use native.Mathlib.Nat.{lt-of-lt-of-le}
@@ -13,15 +14,10 @@ use Rattle.lists.specs.Tests.{by-fact}
 use Rattle.lists.specs.Below.{below-more}
 use Rattle.subset.specs.Sets.{full}
 use Rattle.graph.specs.InTables.{graphIn}
+use Rattle.graph.specs.Layout.{rootOf}
 use Rattle.graph.specs.Theorems.{rule-root}
 use Rattle.table.specs.Cells.{cellIn}
-use Rattle.layout.specs.Root.{fullCell, IsRoot}
-
--- r is the lowest of the numbers below n at which f is least
-pub record LowestTo (f : ℕ → ℕ) (n r : ℕ) : Type 0 where
-  pub below : r < n
-  pub cheapest : (u : ℕ) → u < n → f r ≤ f u
-  pub lowest : (u : ℕ) → u < r → f r < f u
+use Rattle.layout.specs.Root.{fullCellIn, LowestTo}
 
 module _ (f : ℕ → ℕ) where
   -- of one number
@@ -57,16 +53,19 @@ full-in n k v w length whole long on = lt-of-lt-of-le (digits-lt on (subst (λ (
 
 -- the choice between two nodes, where x and y are their cells of the full set w, as a comparison of x and y makes it
 pub chosen : (k : ℕ) (cells : List ℕ) (first second w x y : ℕ) → w ≡ full k → y ≡ cellIn cells (2 ^ k) second w → x ≡ cellIn cells (2 ^ k) first w
-    → (b : Bool) → ltb y x ≡ b → cond (ltb (fullCell k cells second) (fullCell k cells first)) second first ≡ cond b second first
+    → (b : Bool) → ltb y x ≡ b → cond (ltb (fullCellIn k cells second) (fullCellIn k cells first)) second first ≡ cond b second first
 chosen k cells first second w x y whole there here b t =
-    let at : (v z : ℕ) → z ≡ cellIn cells (2 ^ k) v w → fullCell k cells v ≡ z = λ v z e. sym (e ∙ ap (cellIn cells (2 ^ k) v) whole) in
+    let at : (v z : ℕ) → z ≡ cellIn cells (2 ^ k) v w → fullCellIn k cells v ≡ z = λ v z e. sym (e ∙ ap (cellIn cells (2 ^ k) v) whole) in
     ap (λ (c : Bool). cond c second first) (ap₂ ltb (at second y there) (at first x here) ∙ t)
 
 -- ---- of all nodes
 
--- the lowest of the cheapest nodes is the root
-pub lowest-root : (n k : ℕ) (cells : List ℕ) (i r : ℕ) → i ≡ n → LowestTo (fullCell k cells) i r → IsRoot n k cells r
-lowest-root n k cells i r e h m starts ends weights landings =
-    let all = subst (λ (j : ℕ). LowestTo (fullCell k cells) j r) e h in
+pub lowest-all : (f : ℕ → ℕ) (n i r : ℕ) → i ≡ n → LowestTo f i r → LowestTo f n r
+lowest-all f n i r e h = subst (λ (j : ℕ). LowestTo f j r) e h
+
+-- the lowest of the cheapest nodes is the root of a graph of n nodes, whatever its arcs and landings are
+pub lowest-root : (n k m : ℕ) (starts ends weights landings cells : List ℕ) (r : ℕ) → LowestTo (fullCellIn k cells) n r
+    → rootOf (graphIn n k m starts ends weights landings) (cellIn cells (2 ^ k)) ≡ some r
+lowest-root n k m starts ends weights landings cells r h =
     rule-root (graphIn n k m starts ends weights landings) (cellIn cells (2 ^ k)) r
-    (record { node = all .below; may = tt; cheapest = λ u l _. all .cheapest u l; lowest = λ u l _. all .lowest u l })
+    (record { node = h .below; may = tt; cheapest = λ u l _. h .cheapest u l; lowest = λ u l _. h .lowest u l })

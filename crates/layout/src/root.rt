@@ -7,12 +7,12 @@ ghost use Prim.Native.Nat.{_*_, _^_, _≤_, _<_};
 ghost use lib.Dec.{ltb};
 ghost use lib.ListN.{length};
 ghost use Rattle.limits.specs.Limits.{maxTerminals};
-ghost use Rattle.layout.specs.Root.{fullCell, IsRoot};
+ghost use Rattle.layout.specs.Root.{fullCellIn, LowestTo};
 
 // The second of two sites where its full-set cell is less, else the first.
 fn cheaper(cells: &[u32], n: u16, k: u8, first: u16, second: u16) -> u16
     requires { ⌜ (k ≤ maxTerminals) × (n * 2 ^ k ≤ length (now cells)) × (first < n) × (second < n) ⌝ }
-    ensures { λ r. ⌜ r ≡ cond (ltb (fullCell k (now (cells .entry)) second) (fullCell k (now (cells .entry)) first)) second first ⌝ }
+    ensures { λ r. ⌜ r ≡ cond (ltb (fullCellIn k (now (cells .entry)) second) (fullCellIn k (now (cells .entry)) first)) second first ⌝ }
 {
     let all = Subset::full(k);
     if cell(cells, k, second, all) < cell(cells, k, first, all) {
@@ -24,7 +24,7 @@ fn cheaper(cells: &[u32], n: u16, k: u8, first: u16, second: u16) -> u16
 // The root for n sites and k stations.
 pub fn best_root(cells: &[u32], n: u16, k: u8) -> u16
     requires { ⌜ (1 ≤ n) × (k ≤ maxTerminals) × (n * 2 ^ k ≤ length (now cells)) ⌝ }
-    ensures { λ r. ⌜ IsRoot n k (now (cells .entry)) r ⌝ }
+    ensures { λ r. ⌜ LowestTo (fullCellIn k (now (cells .entry))) n r ⌝ }
 {
     let mut root = 0;
     let mut v = 1;
