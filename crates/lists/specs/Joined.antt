@@ -8,6 +8,7 @@ use native.Mathlib.Nat.{mul-zero, le-of-suc-le-suc, not-suc-le-zero}
 use native.Mathlib.Omega.{arith}
 use lib.ListN.{length, getD, drop, length-append}
 use lib.Seq.{drop-append-add}
+use Rattle.lists.specs.Every.{Every}
 
 module _ {A B : Type 0} where
   -- the lists f s for each s of l, one after the other
@@ -19,6 +20,11 @@ module _ {A B : Type 0} where
   pub joined-same : (f g : A → List B) → ((s : A) → f s ≡ g s) → (l : List A) → joined f l ≡ joined g l
   joined-same f g h [] = refl
   joined-same f g h (s ∷ l) = ap₂ _++_ (h s) (joined-same f g h l)
+
+  -- two functions that give the same list for every entry
+  pub joined-every : (f g : A → List B) (l : List A) → Every (λ s. f s ≡ g s) l → joined f l ≡ joined g l
+  joined-every f g [] h = refl
+  joined-every f g (s ∷ l) h = ap₂ _++_ (h .0) (joined-every f g l (h .1))
 
   -- empty lists, one after the other
   pub joined-none : (f : A → List B) → ((s : A) → f s ≡ []) → (l : List A) → joined f l ≡ []

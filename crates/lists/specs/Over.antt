@@ -5,13 +5,17 @@ use mathlib.Core.Path.{_≡_, sym, ap, _∙_}
 use mathlib.Core.List.{List, [], _∷_, _++_, append-assoc}
 use native.Mathlib.Numerals.{add-one}
 use native.Mathlib.Omega.{arith}
-use lib.ListN.{length, getD, drop, set, length-append, length-drop, length-set, List·getD-append}
+use lib.ListN.{length, getD, take, drop, set, length-append, length-drop, length-set, List·getD-append}
 use lib.Seq.{drop-at, drop-cons, getD-append-add, getD-drop, set-append-seam, set-append-left}
 
 module _ {A : Type 0} where
   -- the table `old` with the entries of `new` in the place of its first ones
   abbrev pub over : List A → List A → List A
   over new old = new ++ drop (length new) old
+
+  -- the same with as many entries of `new` as `old` has room for
+  abbrev pub fitOver : List A → List A → List A
+  fitOver new old = over (take (length old) new) old
 
   pub length-over : (new old : List A) → length new ≤ length old → length (over new old) ≡ length old
   length-over new old h = simp (length-append, length-drop) (omega arith)

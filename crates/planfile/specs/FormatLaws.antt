@@ -2,13 +2,13 @@
 -- and the bytes of the fields that are read from any byte string.
 -- Assumes nothing.
 use Prim.Native.Nat.{ℕ, zero, suc, _+_, _*_, _≤_, _<_, _^_}
-use mathlib.Core.Path.{_≡_, refl, sym, ap, _∙_}
+use mathlib.Core.Path.{_≡_, refl, sym, ap, ap₂, _∙_}
 use mathlib.Core.Bool.{Bool, cond}
 use mathlib.Core.Option.{none, some}
-use mathlib.Core.List.{List, [], _∷_, _++_, map}
+use mathlib.Core.List.{List, [], _∷_, _++_, map, append-nil}
 use native.Mathlib.Nat.{add-zero, zero-add}
 use native.Mathlib.Omega.{arith}
-use lib.ListN.{length, getD, drop, length-append}
+use lib.ListN.{length, getD, drop, length-append, List·getD-append}
 use lib.Seq.{ext-getD, drop-append-add}
 use lib.Dec.{T, ltb→lt, lt→ltb}
 use Rattle.limits.specs.Marks.{markPN, markLG}
@@ -111,18 +111,26 @@ module _ (root total : ℕ) (arcs : List ℕ) where
       ∙ ap (λ (l : List ℕ). number16 l 2) (record-at i h)
       ∙ number16-bytes (getD arcs i 0) (joined arcBytes (drop (suc i) arcs)) small
 
-  -- the leg numbers of all records
-  pub arcs-read : Every (λ (e : ℕ). e < 2 ^ 16) arcs → arcsTo file (length arcs) ≡ arcs
-  arcs-read small = ext-getD 0 (arcsTo file (length arcs)) arcs count (λ i l. at i (omega (arith, count)))
+  -- the leg numbers of all records, where further bytes may follow the file
+  pub arcs-read-first : Every (λ (e : ℕ). e < 2 ^ 16) arcs → (rest : List ℕ) → arcsTo (file ++ rest) (length arcs) ≡ arcs
+  arcs-read-first small rest = ext-getD 0 (arcsTo (file ++ rest) (length arcs)) arcs count (λ i l. at i (omega (arith, count)))
     where
-      count : length (arcsTo file (length arcs)) ≡ length arcs
-      count = length-values (listedArc file) 0 (length arcs)
+      count : length (arcsTo (file ++ rest) (length arcs)) ≡ length arcs
+      count = length-values (listedArc (file ++ rest)) 0 (length arcs)
 
-      at : (i : ℕ) → i < length arcs → getD (arcsTo file (length arcs)) i 0 ≡ getD arcs i 0
+      byte : (i j : ℕ) → i < length arcs → j < fileSize (suc i) → getD (file ++ rest) j 0 ≡ getD file j 0
+      byte i j h l = List·getD-append file rest 0 j (omega (arith, length-file))
+
+      at : (i : ℕ) → i < length arcs → getD (arcsTo (file ++ rest) (length arcs)) i 0 ≡ getD arcs i 0
       at i h =
-          getD-values (listedArc file) 0 (length arcs) i 0 h
-          ∙ ap (listedArc file) (zero-add i)
+          getD-values (listedArc (file ++ rest)) 0 (length arcs) i 0 h
+          ∙ ap (listedArc (file ++ rest)) (zero-add i)
+          ∙ ap₂ (λ (a b : ℕ). a * 256 + b) (byte i (fileSize i + 2) h (omega arith)) (byte i (fileSize i + 2 + 1) h (omega arith))
           ∙ arc-is i h (every-at (λ (e : ℕ). e < 2 ^ 16) arcs small i 0 h)
+
+  -- and of the file alone
+  pub arcs-read : Every (λ (e : ℕ). e < 2 ^ 16) arcs → arcsTo file (length arcs) ≡ arcs
+  arcs-read small = ap (λ (l : List ℕ). arcsTo l (length arcs)) (sym (append-nil file)) ∙ arcs-read-first small []
 
 -- ---- the bytes of what is read
 
