@@ -1,6 +1,6 @@
 -- The cells of one set, one for each node, as a list: what a pass over the arcs does to them, and what passes until one lowers nothing do.
 -- Assumes nothing.
-use Prim.Native.Nat.{ℕ, _+_, _≤_, _<_}
+use Prim.Native.Nat.{ℕ, _+_, _-_, _≤_, _<_}
 use mathlib.Core.Path.{_≡_, refl, sym, ap, _∙_, subst, subst₂}
 use mathlib.Core.Logic.{_≢_, _⊎_, inl, inr}
 use mathlib.Core.Bool.{Bool, true, false, true≢false, false≢true}
@@ -33,13 +33,19 @@ pub record ArcTables (n m : ℕ) (starts ends weights : List ℕ) : Type 0 where
 abbrev pub AllLow : List ℕ → Type 0
 AllLow l = (i : ℕ) → i < length l → entry l i ≤ workingNone
 
+-- the arc that a pass takes after i others, of m: arc i, or, backward, so many before the last
+abbrev pub taken : (backward : Bool) → (m i : ℕ) → ℕ
+taken false m i = i
+taken true m i = m - 1 - i
+
 module _ (m : ℕ) (starts ends weights : List ℕ) where
-  -- a pass over the arcs below e, from `before`; whether it lowered a cell
-  pub record Passed (before after : List ℕ) (e : ℕ) (lowered : Bool) : Type 0 where
+  -- a pass over the arcs `nth 0` to `nth (i - 1)`, from `before`; whether it lowered a cell
+  pub record Passed (nth : ℕ → ℕ) (before after : List ℕ) (i : ℕ) (lowered : Bool) : Type 0 where
     pub same-length : length after ≡ length before
     pub low : (v : ℕ) → entry after v ≤ entry before v
     pub from : (v : ℕ) → (entry after v ≡ entry before v) ⊎ ArcFrom m (entry starts) (entry ends) (entry weights) (entry after) v
-    pub unchanged : lowered ≡ false → (after ≡ before) × ((d : ℕ) → d < e → entry after (entry starts d) ≤ entry weights d + entry after (entry ends d))
+    pub unchanged : lowered ≡ false
+        → (after ≡ before) × ((d : ℕ) → d < i → entry after (entry starts (nth d)) ≤ entry weights (nth d) + entry after (entry ends (nth d)))
     pub falls : lowered ≡ true → sumTo (length before) (entry after) < sumTo (length before) (entry before)
 
   -- passes, until one lowers nothing
@@ -49,8 +55,8 @@ module _ (m : ℕ) (starts ends weights : List ℕ) where
 
 -- ---- one pass
 
-module _ {m : ℕ} {starts ends weights before : List ℕ} where
-  pub passed-none : Passed m starts ends weights before before 0 false
+module _ {m : ℕ} {starts ends weights : List ℕ} {nth : ℕ → ℕ} {before : List ℕ} where
+  pub passed-none : Passed m starts ends weights nth before before 0 false
   passed-none = record {
     same-length = refl;
     low = λ v. omega arith;
@@ -59,11 +65,11 @@ module _ {m : ℕ} {starts ends weights before : List ℕ} where
     falls = λ q. absurd (false≢true q);
   }
 
-  module _ {mid : List ℕ} {e : ℕ} {lowered : Bool} (A : ArcTables (length before) m starts ends weights) (l : e < m)
-      (P : Passed m starts ends weights before mid e lowered) where
+  module _ {mid : List ℕ} {i e : ℕ} {lowered : Bool} (A : ArcTables (length before) m starts ends weights) (l : e < m) (next : e ≡ nth i)
+      (P : Passed m starts ends weights nth before mid i lowered) where
     -- the arc gives less: the cell of its start is lowered
     passed-lower : (x : ℕ) → x ≡ entry mid (entry ends e) + entry weights e → x < entry mid (entry starts e)
-        → Passed m starts ends weights before (set mid (entry starts e) x) (e + 1) true
+        → Passed m starts ends weights nth before (set mid (entry starts e) x) (i + 1) true
     passed-lower x is less = record {
       same-length = length-set mid (entry starts e) x ∙ P .same-length;
       low = λ v. omega (arith, le v, P .low v);
@@ -122,13 +128,17 @@ module _ {m : ℕ} {starts ends weights before : List ℕ} where
         fall false q = omega (arith, less-sum, ap (λ (k : List ℕ). sumTo (length before) (entry k)) (P .unchanged q .0))
 
     -- it does not: the cell stays
-    passed-keep : entry mid (entry starts e) ≤ entry mid (entry ends e) + entry weights e → Passed m starts ends weights before mid (e + 1) lowered
+    passed-keep : entry mid (entry starts e) ≤ entry mid (entry ends e) + entry weights e
+        → Passed m starts ends weights nth before mid (i + 1) lowered
     passed-keep stays = record {
       same-length = P .same-length;
       low = P .low;
       from = P .from;
-      unchanged = λ q. let (same, each) = P .unchanged q in
-          (same, below-more (λ d. entry mid (entry starts d) ≤ entry weights d + entry mid (entry ends d)) e each (omega arith));
+      unchanged = λ q. let (same, each) = P .unchanged q in (
+        same,
+        below-more (λ d. entry mid (entry starts (nth d)) ≤ entry weights (nth d) + entry mid (entry ends (nth d))) i each
+            (subst (λ (a : ℕ). entry mid (entry starts a) ≤ entry weights a + entry mid (entry ends a)) next (omega arith)),
+      );
       falls = P .falls;
     }
 
@@ -136,29 +146,52 @@ module _ {m : ℕ} {starts ends weights before : List ℕ} where
     pub passed-more : {Less More : Type 0} (a x : ℕ) (lowered' : Bool) → a ≡ entry starts e
         → (Less → entry mid (entry ends e) + entry weights e < entry mid a) → (More → entry mid a ≤ entry mid (entry ends e) + entry weights e)
         → (Less × (lowered' ≡ true) × (x ≡ entry mid (entry ends e) + entry weights e)) ⊎ (More × (lowered' ≡ lowered) × (x ≡ entry mid a))
-        → Passed m starts ends weights before (set mid a x) (e + 1) lowered'
+        → Passed m starts ends weights nth before (set mid a x) (i + 1) lowered'
     passed-more a x lowered' is less more (inl (t, flag, gives)) =
-        subst₂ (λ (b : ℕ) (f : Bool). Passed m starts ends weights before (set mid b x) (e + 1) f) (sym is) (sym flag)
+        subst₂ (λ (b : ℕ) (f : Bool). Passed m starts ends weights nth before (set mid b x) (i + 1) f) (sym is) (sym flag)
         (passed-lower x gives (omega (arith, less t, ap (entry mid) is)))
     passed-more a x lowered' is less more (inr (t, flag, old)) =
-        subst₂ (λ (k : List ℕ) (f : Bool). Passed m starts ends weights before k (e + 1) f)
+        subst₂ (λ (k : List ℕ) (f : Bool). Passed m starts ends weights nth before k (i + 1) f)
         (sym (ap (set mid a) old ∙ set-getD mid a 0)) (sym flag) (passed-keep (omega (arith, more t, ap (entry mid) is)))
 
--- all arcs
-pub passed-all : {m e : ℕ} {starts ends weights before after : List ℕ} {lowered : Bool} → Passed m starts ends weights before after e lowered → e ≡ m
-    → Passed m starts ends weights before after m lowered
-passed-all {m} {e} {starts} {ends} {weights} {before} {after} {lowered} P q = subst (λ (x : ℕ). Passed m starts ends weights before after x lowered) q P
+-- each arc is taken, in either direction
+pub taken-twice : (backward : Bool) (m i : ℕ) → i < m → (taken backward m i < m) × (taken backward m (taken backward m i) ≡ i)
+taken-twice false m i l = (l, refl)
+taken-twice true m i l = (omega arith, omega arith)
 
--- what is known at arc e: both nodes have a cell, and the sum fits in four bytes
+-- a pass over all arcs, in either direction, gives what one in their order gives
+pub passed-all : {m i : ℕ} {starts ends weights : List ℕ} (backward : Bool) {before after : List ℕ} {lowered : Bool}
+    → Passed m starts ends weights (taken backward m) before after i lowered → i ≡ m → Passed m starts ends weights (λ d. d) before after m lowered
+passed-all {m} {i} {starts} {ends} {weights} backward {before} {after} P q = record {
+  same-length = P .same-length;
+  low = P .low;
+  from = P .from;
+  unchanged = λ t. let (same, each) = P .unchanged t in (
+    same,
+    λ d l.
+        let (on, back) = taken-twice backward m d l in
+        subst (λ (a : ℕ). entry after (entry starts a) ≤ entry weights a + entry after (entry ends a)) back (each (taken backward m d) (omega (arith, on))),
+  );
+  falls = P .falls;
+}
+
+-- what is known at arc e: the tables have it, both its nodes have a cell, and the sum fits in four bytes
 pub record ArcKnown (starts ends weights column : List ℕ) (e : ℕ) : Type 0 where
+  pub starts-long : e < length starts
+  pub ends-long : e < length ends
+  pub weights-long : e < length weights
   pub start-lt : entry starts e < length column
   pub end-lt : entry ends e < length column
   pub few : length column ≤ maxNodes
   pub sum-lt : entry column (entry ends e) + entry weights e < 4294967296
 
-pub arc-known : {m e : ℕ} {starts ends weights before mid : List ℕ} {lowered : Bool} → ArcTables (length before) m starts ends weights × AllLow before
-    → Passed m starts ends weights before mid e lowered → e < m → ArcKnown starts ends weights mid e
-arc-known {m} {e} {starts} {ends} (A, low) P l = record {
+pub arc-known : {m i e : ℕ} {starts ends weights : List ℕ} {nth : ℕ → ℕ} {before mid : List ℕ} {lowered : Bool}
+    → ArcTables (length before) m starts ends weights × AllLow before → Passed m starts ends weights nth before mid i lowered → e < m
+    → ArcKnown starts ends weights mid e
+arc-known {m} {i} {e} {starts} {ends} (A, low) P l = record {
+  starts-long = omega (arith, A .starts-long);
+  ends-long = omega (arith, A .ends-long);
+  weights-long = omega (arith, A .weights-long);
   start-lt = omega (arith, A .start-lt e l, P .same-length);
   end-lt = omega (arith, A .end-lt e l, P .same-length);
   few = omega (arith, A .few, P .same-length);
@@ -177,7 +210,7 @@ module _ {m : ℕ} {starts ends weights before : List ℕ} where
   pub lowering-none : Lowering m starts ends weights before before
   lowering-none = record { same-length = refl; low = λ v. omega arith; from = λ v. inl refl }
 
-  module _ {mid after : List ℕ} {lowered : Bool} (L : Lowering m starts ends weights before mid) (P : Passed m starts ends weights mid after m lowered) where
+  module _ {mid after : List ℕ} {lowered : Bool} (L : Lowering m starts ends weights before mid) (P : Passed m starts ends weights (λ d. d) mid after m lowered) where
     pub lowering-more : Lowering m starts ends weights before after
     lowering-more = record {
       same-length = P .same-length ∙ L .same-length;

@@ -11,7 +11,6 @@ use lib.Count.{ones}
 use lib.ListN.{length, getD}
 use Rattle.limits.specs.Limits.{maxSubsets}
 use Rattle.lists.specs.Numbers.{numbers, length-values, getD-values}
-use Rattle.lists.specs.Values.{ValuesTo, all-values}
 use Rattle.subset.specs.Sizes.{ones-empty, ones-pos}
 use Rattle.order.specs.Order.{inOrder}
 use Rattle.order.specs.Rule.{never-falls, position, one-position}
@@ -44,16 +43,11 @@ not-empty i pos l = go (ℕ-discrete (inOrder i) 0)
 pub record OrderTable (sets : List ℕ) : Type 0 where
   pub each : sets ≡ map inOrder (numbers 0 maxSubsets)
 
-pub order-table : {i : ℕ} {old sets : List ℕ} → length old ≡ maxSubsets → i ≤ maxSubsets → maxSubsets ≤ i → ValuesTo inOrder i old sets → OrderTable sets
-order-table {i} {old} {sets} so-many low high values = record {
-  each = all-values (omega arith) (omega (arith, values .same-length)) values ∙ ap (λ (m : ℕ). map inOrder (numbers 0 m)) so-many;
-}
-
 module _ {sets : List ℕ} (P : OrderTable sets) where
-  order-length : length sets ≡ maxSubsets
+  pub order-length : length sets ≡ maxSubsets
   order-length = ap length (P .each) ∙ length-values inOrder 0 maxSubsets
 
-  order-at : {i : ℕ} → i < maxSubsets → getD sets i 0 ≡ inOrder i
+  pub order-at : {i : ℕ} → i < maxSubsets → getD sets i 0 ≡ inOrder i
   order-at {i} l = ap (λ (s : List ℕ). getD s i 0) (P .each) ∙ getD-values inOrder 0 maxSubsets i 0 l ∙ ap inOrder (zero-add i)
 
   -- at a position of a range

@@ -5,17 +5,37 @@ ghost use Prim.Native.Nat.{_*_, _<_, _≤_};
 ghost use lib.ListN.{length};
 ghost use Rattle.lists.specs.Numbers.{numbers};
 ghost use Rattle.table.specs.Cells.{cellIn};
-ghost use Rattle.search.specs.Column.{ArcTables, AllLow, Passed, Settled};
+ghost use Rattle.search.specs.Column.{ArcTables, AllLow, taken, Passed, Settled};
 ghost use Rattle.search.specs.InTable.{ColumnPut};
 
-// One pass over the legs: the cell of each start is lowered where the leg and the cell of its end give less. Whether one was lowered.
-fn pass(starts: &[u16], ends: &[u16], weights: &[u32], arcs: usize, column: &mut [u32]) -> bool
+// The leg that a pass takes after i others: leg i, or, backward, so many before the last.
+fn taken_arc(i: usize, arcs: usize, backward: bool) -> usize
+    requires { ⌜ i < arcs ⌝ }
+    ensures { λ r. ⌜ (r ≡ taken backward arcs i) × (r < arcs) ⌝ }
+{
+    if backward {
+        return arcs - 1 - i;
+    }
+    i
+}
+
+// One pass over the legs, in their order or backward: the cell of each start is lowered where the leg and the cell of its end give less. Whether
+// one was lowered.
+fn pass(
+    starts: &[u16],
+    ends: &[u16],
+    weights: &[u32],
+    arcs: usize,
+    backward: bool,
+    column: &mut [u32],
+) -> bool
     requires { ⌜ ArcTables (length (now column)) arcs (now starts) (now ends) (now weights) × AllLow (now column) ⌝ }
-    ensures { λ r. ⌜ Passed arcs (now (starts .entry)) (now (ends .entry)) (now (weights .entry)) (now (column .entry)) (now (column .exit)) arcs r ⌝ }
+    ensures { λ r. ⌜ Passed arcs (now (starts .entry)) (now (ends .entry)) (now (weights .entry)) (λ e. e) (now (column .entry)) (now (column .exit)) arcs r ⌝ }
 {
     let mut lowered = false;
-    let mut e: usize = 0;
-    while e < arcs {
+    let mut i: usize = 0;
+    while i < arcs {
+        let e = taken_arc(i, arcs, backward);
         let start = starts[e] as usize;
         let end = ends[e] as usize;
         let old = column[start];
@@ -26,23 +46,28 @@ fn pass(starts: &[u16], ends: &[u16], weights: &[u32], arcs: usize, column: &mut
             lowered = true;
         }
         column[start] = new;
-        e += 1;
+        i += 1;
     }
     lowered
 }
 
-// Pass after pass, until one lowers nothing. Two passes in a turn: with one, the compiler makes one loop of passes and legs, which is slower.
+// Pass after pass, until one lowers nothing. Every third pass goes backward: cells that depend on each other against the order of the legs are then
+// lowered in one pass.
 pub fn settle(starts: &[u16], ends: &[u16], weights: &[u32], arcs: usize, column: &mut [u32])
     requires { ⌜ ArcTables (length (now column)) arcs (now starts) (now ends) (now weights) × AllLow (now column) ⌝ }
     ensures { λ _. ⌜ Settled arcs (now (starts .entry)) (now (ends .entry)) (now (weights .entry)) (now (column .entry)) (now (column .exit)) ⌝ }
 {
     loop {
-        let lowered = pass(starts, ends, weights, arcs, column);
+        let lowered = pass(starts, ends, weights, arcs, false, column);
         if !lowered {
             return;
         }
-        let again = pass(starts, ends, weights, arcs, column);
+        let again = pass(starts, ends, weights, arcs, false, column);
         if !again {
+            return;
+        }
+        let back = pass(starts, ends, weights, arcs, true, column);
+        if !back {
             return;
         }
     }

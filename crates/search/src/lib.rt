@@ -10,7 +10,7 @@ use crate::rows::start_rows;
 use crate::sets::POSITIONS;
 use crate::sets::close_sets;
 use crate::sets::end_of_size;
-use crate::sets::take_order;
+use order::copy_order;
 use table::sets_of;
 ghost use mathlib.Core.Path.{_≡_};
 ghost use mathlib.Core.List.{map};
@@ -67,9 +67,10 @@ fn fill(
     start_rows(landings, n, size, cells);
     let mut first: usize = 1;
     while first < POSITIONS {
-        let last = end_of_size(first);
+        let last = end_of_size(sets, first);
         split_rows(sets, n, size, first, last, cells);
         close_sets(
+            sets,
             starts,
             ends,
             weights,
@@ -117,7 +118,7 @@ pub fn search(
     let nodes = n as usize;
     let total = nodes * sets_of(k);
     let mut sets = [0u16; POSITIONS];
-    take_order(&mut sets);
+    copy_order(&mut sets);
     let mut column = [0u32; MAX_NODES];
     fill(
         starts,

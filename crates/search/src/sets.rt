@@ -2,6 +2,7 @@
 use crate::column::put_column;
 use crate::column::settle;
 use crate::column::take_column;
+use subset::Subset;
 ghost use mathlib.Core.Path.{_≡_};
 ghost use Prim.Native.Nat.{_*_, _<_, _≤_};
 ghost use lib.ListN.{length};
@@ -15,27 +16,23 @@ ghost use Rattle.search.specs.ClosedCells.{SetClosed, SetsClosed};
 // How many positions the order has.
 pub const POSITIONS: usize = limits::MAX_SUBSETS as usize;
 
-// The sets in their order, one for each position.
-pub fn take_order(sets: &mut [u16])
-    requires { ⌜ length (now sets) ≡ maxSubsets ⌝ }
-    ensures { λ _. ⌜ OrderTable (now (sets .exit)) ⌝ }
+// The set at a position of the order, from the table of all of them.
+fn set_at(sets: &[u16], position: usize) -> Subset
+    requires { ⌜ OrderTable (now sets) × (position < maxSubsets) ⌝ }
+    ensures { λ r. ⌜ r .0 ≡ inOrder position ⌝ }
 {
-    let mut position: usize = 0;
-    while position < POSITIONS {
-        sets[position] = order::at(position).0;
-        position += 1;
-    }
+    Subset(sets[position])
 }
 
 // The end of the range of positions, from `first` on, whose sets have one size.
-pub fn end_of_size(first: usize) -> usize
-    requires { ⌜ first < maxSubsets ⌝ }
+pub fn end_of_size(sets: &[u16], first: usize) -> usize
+    requires { ⌜ OrderTable (now sets) × (first < maxSubsets) ⌝ }
     ensures { λ r. ⌜ SizeEnd first r ⌝ }
 {
-    let size = order::at(first).size();
+    let size = set_at(sets, first).size();
     let mut last = first + 1;
     while last < POSITIONS {
-        if order::at(last).size() != size {
+        if set_at(sets, last).size() != size {
             return last;
         }
         last += 1;
@@ -66,6 +63,7 @@ fn close_set(
 
 // The same for each set at the positions from `first` up to `last`, which have one size. Sets that the table does not have are passed over.
 pub fn close_sets(
+    sets: &[u16],
     starts: &[u16],
     ends: &[u16],
     weights: &[u32],
@@ -76,6 +74,7 @@ pub fn close_sets(
     cells: &mut [u32],
     column: &mut [u32],
 )
+    requires { ⌜ OrderTable (now sets) ⌝ }
     requires { ⌜ OneSize inOrder maxSubsets first last × (length (now cells) ≡ length (now column) * size)
         × ArcTables (length (now column)) arcs (now starts) (now ends) (now weights) × AllLow (now cells) × (size ≤ maxSubsets) ⌝ }
     ensures { λ _. ⌜ SetsClosed (length (now (column .entry))) arcs size (now (starts .entry)) (now (ends .entry)) (now (weights .entry)) inOrder first last
@@ -83,7 +82,7 @@ pub fn close_sets(
 {
     let mut position = first;
     while position < last {
-        let w = order::at(position).0 as usize;
+        let w = set_at(sets, position).0 as usize;
         if w < size {
             close_set(starts, ends, weights, arcs, size, w, cells, column);
         }

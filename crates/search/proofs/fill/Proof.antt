@@ -44,7 +44,7 @@ loop-holds c = let whole = start-asked (c .before .before .before .before .befor
 
 -- src/lib.rt:70:13
 end-of-size-requires : tie.Need-end-of-size-requires Inv-loop μ-loop
-end-of-size-requires c κs = c .loop-test .taken
+end-of-size-requires c κs = (c .before .before .before .before .before .before .before .before .before .before .before .before .before .before .pre .2, c .loop-test .taken)
 
 -- src/lib.rt:71:9
 split-rows-requires : tie.Need-split-rows-requires Inv-loop μ-loop
@@ -52,7 +52,7 @@ split-rows-requires c κs = split-asked (c .before .before .before .before .befo
 
 -- src/lib.rt:72:9
 close-sets-requires : tie.Need-close-sets-requires Inv-loop μ-loop
-close-sets-requires c κs = close-asked (c .before .before .before .before .before .before .before .before .before .before .before .before .before .before .before .before .before .before .before .before .before .pre .0) (c .before .before .before .before .before .before .before .before .before .before .before .before .before .sets-of .ensures) (c .before .before .before .before .before .before .end-of-size .ensures .range) (c .before .before .before .before .before .before .before .before .loop .cells) _ (c .before .before .before .before .before .before .before .before .loop .column) (c .before .before .before .before .before .before .before .before .loop .inv .2) (c .before .before .before .before .before .before .before .before .loop .inv .3) (c .before .before .before .before .before .before .before .before .loop .inv .4) (c .before .before .before .before .split-rows .ensures)
+close-sets-requires c κs = (c .before .before .before .before .before .before .before .before .before .before .before .before .before .before .before .before .before .before .before .before .before .pre .2, close-asked (c .before .before .before .before .before .before .before .before .before .before .before .before .before .before .before .before .before .before .before .before .before .pre .0) (c .before .before .before .before .before .before .before .before .before .before .before .before .before .sets-of .ensures) (c .before .before .before .before .before .before .end-of-size .ensures .range) (c .before .before .before .before .before .before .before .before .loop .cells) _ (c .before .before .before .before .before .before .before .before .loop .column) (c .before .before .before .before .before .before .before .before .loop .inv .2) (c .before .before .before .before .before .before .before .before .loop .inv .3) (c .before .before .before .before .before .before .before .before .loop .inv .4) (c .before .before .before .before .split-rows .ensures))
 
 -- src/lib.rt:69:5
 loop-less : tie.Need-loop-less Inv-loop μ-loop
@@ -60,7 +60,7 @@ loop-less c = omega (arith, c .before .before .before .before .before .before .b
 
 -- src/lib.rt:69:5
 loop-again : tie.Need-loop-again Inv-loop μ-loop
-loop-again c = let next = fill-next (c .before .before .before .before .before .before .before .before .before .before .before .before .before .before .before .before .before .before .before .before .before .before .before .before .before .before .pre .0) (c .before .before .before .before .before .before .before .before .before .before .before .before .before .before .before .before .before .before .sets-of .ensures) (c .before .before .before .before .before .before .before .before .before .before .before .end-of-size .ensures .range) (c .before .before .before .before .before .before .before .before .before .before .before .before .before .loop .inv .2) (c .before .before .before .before .before .before .before .before .before .before .before .before .before .loop .inv .3) (c .before .before .before .before .before .before .before .before .before .before .before .before .before .loop .inv .4) (c .before .before .before .before .before .before .before .before .before .split-rows .ensures) (c .before .before .before .before .close-sets .ensures) in (omega (arith, c .before .before .before .before .before .before .before .before .before .before .before .end-of-size .ensures .rising), c .before .before .before .before .before .before .before .before .before .before .before .end-of-size .ensures .range .bound, c .before .before .before .before .close-sets .kept .1 .1 .1 .1 .1 .1 .1 .1 .0 ∙ c .before .before .before .before .before .before .before .before .before .before .before .before .before .loop .inv .2, next .0, next .1)
+loop-again c = let next = fill-next (c .before .before .before .before .before .before .before .before .before .before .before .before .before .before .before .before .before .before .before .before .before .before .before .before .before .before .pre .0) (c .before .before .before .before .before .before .before .before .before .before .before .before .before .before .before .before .before .before .sets-of .ensures) (c .before .before .before .before .before .before .before .before .before .before .before .end-of-size .ensures .range) (c .before .before .before .before .before .before .before .before .before .before .before .before .before .loop .inv .2) (c .before .before .before .before .before .before .before .before .before .before .before .before .before .loop .inv .3) (c .before .before .before .before .before .before .before .before .before .before .before .before .before .loop .inv .4) (c .before .before .before .before .before .before .before .before .before .split-rows .ensures) (c .before .before .before .before .close-sets .ensures) in (omega (arith, c .before .before .before .before .before .before .before .before .before .before .before .end-of-size .ensures .rising), c .before .before .before .before .before .before .before .before .before .before .before .end-of-size .ensures .range .bound, c .before .before .before .before .close-sets .kept .1 .1 .1 .1 .1 .1 .1 .1 .1 .0 ∙ c .before .before .before .before .before .before .before .before .before .before .before .before .before .loop .inv .2, next .0, next .1)
 
 -- src/lib.rt:85:5
 finish-requires : tie.Need-finish-requires Inv-loop μ-loop

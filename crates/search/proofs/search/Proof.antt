@@ -13,7 +13,7 @@ use Rattle.search.proofs.search.Reads as reads
 use Rattle.search.proofs.search.Lts as lts
 use Rattle.search.proofs.fill.Reads as fill-reads
 use Rattle.search.proofs.mark_all.Reads as mark-all-reads
-use Rattle.search.proofs.sets.take_order.Reads as take-order-reads
+use Rattle.order.proofs.copy_order.Reads as copy-order-reads
 use Rattle.table.proofs.sets_of.Reads as sets-of-reads
 
 -- src/lib.rt:118:25
@@ -25,12 +25,12 @@ mul-total : tie.Need-mul-total
 mul-total c = omega (arith, total-fits (c .before .before .before .before .before .before .before .pre .0) (c .sets-of .ensures))
 
 -- src/lib.rt:120:16
-slice-aggregate-take-order : tie.Need-slice-aggregate-take-order
-slice-aggregate-take-order c = search needs
+slice-aggregate-copy-order : tie.Need-slice-aggregate-copy-order
+slice-aggregate-copy-order c = search needs
 
 -- src/lib.rt:120:5
-take-order-requires : tie.Need-take-order-requires
-take-order-requires c κs = search needs
+copy-order-requires : tie.Need-copy-order-requires
+copy-order-requires c κs = search needs
 
 -- src/lib.rt:127:9
 slice-aggregate-fill : tie.Need-slice-aggregate-fill
@@ -54,7 +54,7 @@ slice-aggregate-fill-3 c = sym (length-take-le _ _ (omega (arith, c .before .bef
 
 -- src/lib.rt:122:5
 fill-requires : tie.Need-fill-requires
-fill-requires c κs = fill-asked (c .before .before .before .before .before .before .before .before .before .before .before .before .before .pre .0) (c .before .before .before .before .before .before .sets-of .ensures) (now (c .before .before .before .before .before .before .before .before .before .before .before .before .before .args .cells)) _ (c .before .before .before .before .before .before .before .before .before .before .before .before .before .pre .1) (omega (arith, c .before .before .before .before .before .before .before .before .before .before .before .before .before .pre .0 .few-nodes)) (c .before .before .before .before .take-order .ensures)
+fill-requires c κs = fill-asked (c .before .before .before .before .before .before .before .before .before .before .before .before .before .pre .0) (c .before .before .before .before .before .before .sets-of .ensures) (now (c .before .before .before .before .before .before .before .before .before .before .before .before .before .args .cells)) _ (c .before .before .before .before .before .before .before .before .before .before .before .before .before .pre .1) (omega (arith, c .before .before .before .before .before .before .before .before .before .before .before .before .before .pre .0 .few-nodes)) (record { each = c .before .before .before .before .copy-order .ensures })
 
 -- src/lib.rt:133:14
 slice-relend-prefix-mark-all : tie.Need-slice-relend-prefix-mark-all
@@ -86,8 +86,8 @@ search-spec =
     (tie.spec
     sets-of-requires
     mul-total
-    slice-aggregate-take-order
-    take-order-requires
+    slice-aggregate-copy-order
+    copy-order-requires
     slice-aggregate-fill
     slice-relend-prefix-fill
     slice-aggregate-fill-2

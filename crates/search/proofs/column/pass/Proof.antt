@@ -1,102 +1,85 @@
+-- `search::column::pass` meets its contract. The loop's invariant: the pass went over the first i arcs that it takes. The measure is the number of
+-- arcs left.
+-- Assumes nothing.
 use Prim.Native.Nat.{_-_, _≤_}
 use mathlib.Core.Path.{refl}
 use native.Mathlib.Omega.{arith}
+use Rattle.search.specs.Column.{taken, Passed, passed-none, passed-more, passed-all, arc-known}
 use borrow.Author.Needs.{needs}
-use Rattle.search.specs.Column.{Passed, passed-none, passed-more, passed-all, arc-known}
 use Rattle.search.proofs.column.pass.Statement.{statement}
 use Rattle.search.proofs.column.pass.Tie as tie
-use Rattle.search.proofs.column.pass.Reads as reads
-use Rattle.search.proofs.column.pass.Lts as lts
 
 abbrev Inv-loop : tie.InvT-loop
-Inv-loop starts ends weights arcs column₀ lowered₀ e₀ column lowered e = (e ≤ arcs) × Passed arcs starts ends weights column₀ column e lowered
+Inv-loop starts ends weights arcs backward column₀ lowered₀ i₀ column lowered i = (i ≤ arcs) × Passed arcs starts ends weights (taken backward arcs) column₀ column i lowered
 
 abbrev μ-loop : tie.MeasureT-loop
-μ-loop starts ends weights arcs column₀ lowered₀ e₀ column lowered e = arcs - e
+μ-loop starts ends weights arcs backward column₀ lowered₀ i₀ column lowered i = arcs - i
 
--- src/column.rt:17:5
 loop-holds : tie.Need-loop-holds Inv-loop μ-loop
 loop-holds c = (search needs, passed-none)
 
--- src/column.rt:18:21
+taken-arc-requires : tie.Need-taken-arc-requires Inv-loop μ-loop
+taken-arc-requires c κs = search needs
+
 mul-start : tie.Need-mul-start Inv-loop μ-loop
-mul-start c = search needs
+mul-start c = omega (arith, arc-known (c .before .before .before .before .before .before .before .pre) (c .before .before .loop .inv .1) (c .taken-arc .ensures .1))
 
--- src/column.rt:18:21
 shared-slice-read-start : tie.Need-shared-slice-read-start Inv-loop μ-loop
-shared-slice-read-start c = search needs
+shared-slice-read-start c = omega (arith, arc-known (c .before .before .before .before .before .before .before .before .pre) (c .before .before .before .loop .inv .1) (c .before .taken-arc .ensures .1))
 
--- src/column.rt:18:21
 cast-start : tie.Need-cast-start Inv-loop μ-loop
-cast-start c = omega (arith, arc-known (c .before .before .before .pre) (c .before .before .loop .inv .1) (c .before .loop-test .taken))
+cast-start c = omega (arith, arc-known (c .before .before .before .before .before .before .before .before .pre) (c .before .before .before .loop .inv .1) (c .before .taken-arc .ensures .1))
 
--- src/column.rt:19:19
 mul-end : tie.Need-mul-end Inv-loop μ-loop
-mul-end c = search needs
+mul-end c = omega (arith, arc-known (c .before .before .before .before .before .before .before .before .pre) (c .before .before .before .loop .inv .1) (c .before .taken-arc .ensures .1))
 
--- src/column.rt:19:19
 shared-slice-read-end : tie.Need-shared-slice-read-end Inv-loop μ-loop
-shared-slice-read-end c = search needs
+shared-slice-read-end c = omega (arith, arc-known (c .before .before .before .before .before .before .before .before .before .pre) (c .before .before .before .before .loop .inv .1) (c .before .before .taken-arc .ensures .1))
 
--- src/column.rt:19:19
 cast-end : tie.Need-cast-end Inv-loop μ-loop
-cast-end c = omega (arith, arc-known (c .before .before .before .before .pre) (c .before .before .before .loop .inv .1) (c .before .before .loop-test .taken))
+cast-end c = omega (arith, arc-known (c .before .before .before .before .before .before .before .before .before .pre) (c .before .before .before .before .loop .inv .1) (c .before .before .taken-arc .ensures .1))
 
--- src/column.rt:20:19
 mul-old : tie.Need-mul-old Inv-loop μ-loop
-mul-old c = omega (arith, arc-known (c .before .before .before .before .pre) (c .before .before .before .loop .inv .1) (c .before .before .loop-test .taken))
+mul-old c = omega (arith, arc-known (c .before .before .before .before .before .before .before .before .before .pre) (c .before .before .before .before .loop .inv .1) (c .before .before .taken-arc .ensures .1))
 
--- src/column.rt:20:19
 slice-read-old : tie.Need-slice-read-old Inv-loop μ-loop
-slice-read-old c = omega (arith, arc-known (c .before .before .before .before .before .pre) (c .before .before .before .before .loop .inv .1) (c .before .before .before .loop-test .taken))
+slice-read-old c = omega (arith, arc-known (c .before .before .before .before .before .before .before .before .before .before .pre) (c .before .before .before .before .before .loop .inv .1) (c .before .before .before .taken-arc .ensures .1))
 
--- src/column.rt:21:21
 mul-given : tie.Need-mul-given Inv-loop μ-loop
-mul-given c = omega (arith, arc-known (c .before .before .before .before .before .pre) (c .before .before .before .before .loop .inv .1) (c .before .before .before .loop-test .taken))
+mul-given c = omega (arith, arc-known (c .before .before .before .before .before .before .before .before .before .before .pre) (c .before .before .before .before .before .loop .inv .1) (c .before .before .before .taken-arc .ensures .1))
 
--- src/column.rt:21:21
 slice-read-given : tie.Need-slice-read-given Inv-loop μ-loop
-slice-read-given c = omega (arith, arc-known (c .before .before .before .before .before .before .pre) (c .before .before .before .before .before .loop .inv .1) (c .before .before .before .before .loop-test .taken))
+slice-read-given c = omega (arith, arc-known (c .before .before .before .before .before .before .before .before .before .before .before .pre) (c .before .before .before .before .before .before .loop .inv .1) (c .before .before .before .before .taken-arc .ensures .1))
 
--- src/column.rt:21:35
 mul-given-2 : tie.Need-mul-given-2 Inv-loop μ-loop
-mul-given-2 c = search needs
+mul-given-2 c = omega (arith, arc-known (c .before .before .before .before .before .before .before .before .before .before .before .pre) (c .before .before .before .before .before .before .loop .inv .1) (c .before .before .before .before .taken-arc .ensures .1))
 
--- src/column.rt:21:35
 shared-slice-read-given : tie.Need-shared-slice-read-given Inv-loop μ-loop
-shared-slice-read-given c = search needs
+shared-slice-read-given c = omega (arith, arc-known (c .before .before .before .before .before .before .before .before .before .before .before .before .pre) (c .before .before .before .before .before .before .before .loop .inv .1) (c .before .before .before .before .before .taken-arc .ensures .1))
 
--- src/column.rt:21:21
 add-given : tie.Need-add-given Inv-loop μ-loop
-add-given c = omega (arith, arc-known (c .before .before .before .before .before .before .before .pre) (c .before .before .before .before .before .before .loop .inv .1) (c .before .before .before .before .before .loop-test .taken))
+add-given c = omega (arith, arc-known (c .before .before .before .before .before .before .before .before .before .before .before .before .pre) (c .before .before .before .before .before .before .before .loop .inv .1) (c .before .before .before .before .before .taken-arc .ensures .1))
 
--- src/column.rt:27:9
 mul-column : tie.Need-mul-column Inv-loop μ-loop
-mul-column c = omega (arith, arc-known (c .before .before .before .before .before .before .before .before .pre) (c .before .before .before .before .before .before .before .loop .inv .1) (c .before .before .before .before .before .before .loop-test .taken))
+mul-column c = omega (arith, arc-known (c .before .before .before .before .before .before .before .before .before .before .before .before .before .pre) (c .before .before .before .before .before .before .before .before .loop .inv .1) (c .before .before .before .before .before .before .taken-arc .ensures .1))
 
--- src/column.rt:27:9
 slice-write-column : tie.Need-slice-write-column Inv-loop μ-loop
-slice-write-column c = omega (arith, arc-known (c .before .before .before .before .before .before .before .before .pre) (c .before .before .before .before .before .before .before .loop .inv .1) (c .before .before .before .before .before .before .loop-test .taken))
+slice-write-column c = omega (arith, arc-known (c .before .before .before .before .before .before .before .before .before .before .before .before .before .pre) (c .before .before .before .before .before .before .before .before .loop .inv .1) (c .before .before .before .before .before .before .taken-arc .ensures .1))
 
--- src/column.rt:28:9
-add-e : tie.Need-add-e Inv-loop μ-loop
-add-e c = search needs
+add-i : tie.Need-add-i Inv-loop μ-loop
+add-i c = search needs
 
--- src/column.rt:17:5
 loop-less : tie.Need-loop-less Inv-loop μ-loop
 loop-less c = search needs
 
--- src/column.rt:17:5
 loop-again : tie.Need-loop-again Inv-loop μ-loop
-loop-again c = (omega (arith, c .before .before .before .before .before .before .loop-test .taken), passed-more (c .before .before .before .before .before .before .before .before .pre .0) (c .before .before .before .before .before .before .loop-test .taken) (c .before .before .before .before .before .before .before .loop .inv .1) _ _ _ refl (λ t. t .taken) (λ t. t .left) (c .if1 .came))
+loop-again c = (omega (arith, c .before .before .before .before .before .before .before .loop-test .taken), passed-more (c .before .before .before .before .before .before .before .before .before .before .before .before .before .pre .0) (c .before .before .before .before .before .before .taken-arc .ensures .1) (c .before .before .before .before .before .before .taken-arc .ensures .0) (c .before .before .before .before .before .before .before .before .loop .inv .1) _ _ _ refl (λ t. t .taken) (λ t. t .left) (c .if1 .came))
 
--- src/column.rt:11:1
 same-length : tie.Need-same-length Inv-loop μ-loop
 same-length c = c .before .loop .inv .1 .same-length
 
--- src/column.rt:11:1
 returns : tie.Need-returns Inv-loop μ-loop
-returns c = passed-all (c .before .loop .inv .1) (omega (arith, c .loop-test .left, c .before .loop .inv .0))
+returns c = passed-all (c .before .before .before .before .before .before .args .backward) (c .before .loop .inv .1) (omega (arith, c .loop-test .left, c .before .loop .inv .0))
 
 pub pass-spec : {M : Type 1} → statement M
 pass-spec =
@@ -105,6 +88,7 @@ pass-spec =
     Inv-loop
     μ-loop
     loop-holds
+    taken-arc-requires
     mul-start
     shared-slice-read-start
     cast-start
@@ -120,7 +104,7 @@ pass-spec =
     add-given
     mul-column
     slice-write-column
-    add-e
+    add-i
     loop-less
     loop-again
     same-length
