@@ -1,0 +1,112 @@
+-- What the desk program writes for every input (document 01, "The desk program and worked sheets"): `too long`, `refused N at P`, or the
+-- listing of the plan. Every line ends in a line feed.
+-- Assumes nothing.
+use Prim.Native.Nat.{ℕ, zero, suc, _+_, _*_, _/_, _%_, _^_}
+use Prim.Native.Char.{code}
+use Prim.Native.String.{String}
+use Prim.Native.String.{[] as end-of-text, _∷_ as _then_}
+use mathlib.Core.Bool.{Bool, true, false, cond, _&&_}
+use mathlib.Core.Option.{Option, none, some}
+use mathlib.Core.List.{List, [], _∷_, _++_}
+use lib.Dec.{leb, ltb}
+use lib.ListN.{length}
+use Rattle.limits.specs.Refusals.{shortTables, noPlan}
+use Rattle.lists.specs.Joined.{joined}
+use Rattle.answer.specs.Stated.{Stated, plan, cell, sender, noSender, refused, ofTables, ofSearch, statedSheet}
+use Rattle.graph.specs.Graph.{Graph}
+use Rattle.sheet.specs.Verdict.{verdict}
+use Rattle.loader.specs.Tables.{byVerdict}
+use Rattle.network.specs.Network.{graphOf}
+use Rattle.engine.specs.Engine.{Plan, planOf}
+
+-- ---- bytes of a text
+
+-- the code of each character
+abbrev pub ascii : String → List ℕ
+ascii end-of-text = []
+ascii (c then s) = code c ∷ ascii s
+
+-- the digit d, below 10
+abbrev pub digit : ℕ → List ℕ
+digit d = (48 + d) ∷ []
+
+-- a number in decimal: its last digit, after the digits of a tenth of it; more turns than the number change nothing
+abbrev pub decimalIn : (turns : ℕ) → ℕ → List ℕ
+decimalIn zero n = []
+decimalIn (suc m) n = elim (ltb n 10) [ true ↦ digit n | false ↦ decimalIn m (n / 10) ++ digit (n % 10) ]
+
+unfoldable pub decimal : ℕ → List ℕ
+decimal n = decimalIn (suc n) n
+
+-- ---- lines
+
+-- "`refused N at P`"
+abbrev pub refusalLine : (number place : ℕ) → List ℕ
+refusalLine number place = ascii "refused " ++ (decimal number ++ (ascii " at " ++ (decimal place ++ ascii "\n")))
+
+-- "First line: sending site, cents, number of legs"
+abbrev pub firstLine : (root cost count : ℕ) → List ℕ
+firstLine root cost count =
+    ascii "root " ++ (decimal root ++ (ascii " total " ++ (decimal cost ++ (ascii " legs " ++ (decimal count ++ ascii "\n")))))
+
+-- "others: leg number, start, end, cents"
+abbrev pub arcLine : (e start end weight : ℕ) → List ℕ
+arcLine e start end weight =
+    ascii "leg "
+    ++ (decimal e
+    ++ (ascii " from " ++ (decimal start ++ (ascii " to " ++ (decimal end ++ (ascii " price " ++ (decimal weight ++ ascii "\n")))))))
+
+-- ---- the text
+
+-- a leg of the graph
+abbrev pub arcText : Graph → ℕ → List ℕ
+arcText G e = arcLine e (G .start e) (G .end e) (G .weight e)
+
+-- a plan, its legs in the order in which they are laid out
+abbrev pub listing : Graph → Plan → List ℕ
+listing G p = firstLine (p .root) (p .cost) (length (p .arcs)) ++ joined (arcText G) (p .arcs)
+
+-- a refusal; the engine sends back nothing else that is not a plan
+abbrev pub refusalText : Stated → List ℕ
+refusalText (refused family number place) = refusalLine number place
+refusalText (plan root cost count) = []
+refusalText (cell cost) = []
+refusalText (sender node) = []
+refusalText noSender = []
+
+-- the plan of a graph, or 12
+abbrev pub planText : Graph → Option Plan → List ℕ
+planText G none = refusalText (refused ofSearch noPlan 0)
+planText G (some p) = listing G p
+
+-- "with 2,048 legs, 64 sites, 8,192 cells"
+abbrev pub deskArcs : ℕ
+deskArcs = 2048
+
+abbrev pub deskNodes : ℕ
+deskNodes = 64
+
+abbrev pub deskCells : ℕ
+deskCells = 8192
+
+-- whether a sheet with n sites, k stations and m legs has room in the tables; the plan buffer "holds any tree of 64 sites", so 13 is never due
+abbrev pub deskFits : (n k m : ℕ) → Bool
+deskFits n k m = leb m deskArcs && (leb n deskNodes && leb (n * 2 ^ k) deskCells)
+
+-- "at most 32,768 bytes, else it writes `too long`"
+abbrev pub deskBytes : ℕ
+deskBytes = 32768
+
+-- the text of a sheet: its refusal, 11, 12, or the plan
+unfoldable pub sheetText : List ℕ → List ℕ
+sheetText sheet =
+    byVerdict
+    (λ fault. refusalText (statedSheet fault))
+    (refusalText (refused ofTables shortTables 0))
+    deskFits
+    (λ n k records. planText (graphOf n k records) (planOf (graphOf n k records)))
+    (verdict sheet)
+
+-- the text of an input
+abbrev pub deskText : List ℕ → List ℕ
+deskText input = cond (ltb deskBytes (length input)) (ascii "too long\n") (sheetText input)

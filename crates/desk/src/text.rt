@@ -1,0 +1,94 @@
+// The text that the desk program writes for an input: the sheet is planned with the desk's tables, and the answer is written as text.
+use crate::lines::put_arcs;
+use crate::lines::put_first;
+use crate::lines::put_refusal;
+use crate::words::put_word;
+use answer::Answer;
+use answer::code_of;
+use engine::planning::plan_sheet;
+ghost use mathlib.Core.Path.{_≡_};
+ghost use Prim.Native.Nat.{_≤_};
+ghost use lib.ListN.{length};
+ghost use Rattle.lists.specs.Over.{fitOver};
+ghost use Rattle.answer.specs.Stated.{stated};
+ghost use Rattle.desk.specs.Text.{deskText, sheetText};
+ghost use Rattle.desk.specs.Stored.{Stored};
+ghost use Rattle.desk.specs.Answered.{answerText, Listable};
+
+// The longest input that is read as a sheet; the legs, sites and cells that there is room for; the plan file of a tree of so many sites; and a
+// length that no text exceeds.
+pub const MAX_BYTES: usize = 32768;
+
+const ARCS: usize = 2048;
+
+const NODES: usize = 64;
+
+const CELLS: usize = 8192;
+
+const PLAN_BYTES: usize = 262;
+
+pub const TEXT_BYTES: usize = 8192;
+
+// The text of an answer, over the tables and the plan buffer that it left.
+fn put_answer(
+    text: &mut [u8],
+    sent: Answer,
+    starts: &[u16],
+    ends: &[u16],
+    weights: &[u32],
+    buffer: &[u8],
+) -> usize
+    requires { ⌜ Listable (stated sent) (now starts) (now ends) (now weights) (now buffer) ⌝ }
+    ensures { λ r. ⌜ Stored (answerText (stated sent) (now (starts .entry)) (now (ends .entry)) (now (weights .entry)) (now (buffer .entry)))
+        0 r (now (text .entry)) (now (text .exit)) ⌝ }
+    ensures { λ r. ⌜ r ≤ 8192 ⌝ }
+{
+    match sent {
+        Answer::Plan { root, total, arcs } => {
+            let next = put_first(text, root as u64, total, arcs as u64);
+            put_arcs(text, next, buffer, arcs, starts, ends, weights)
+        }
+        Answer::Refused(refusal) => {
+            let code = code_of(refusal);
+            put_refusal(text, code.number as u64, code.place as u64)
+        }
+    }
+}
+
+// The text of a sheet.
+fn put_sheet(text: &mut [u8], sheet: &[u8]) -> usize
+    ensures { λ r. ⌜ Stored (sheetText (now (sheet .entry))) 0 r (now (text .entry)) (now (text .exit)) ⌝ }
+    ensures { λ r. ⌜ r ≤ 8192 ⌝ }
+{
+    let mut starts = [0u16; ARCS];
+    let mut ends = [0u16; ARCS];
+    let mut weights = [0u32; ARCS];
+    let mut landings = [0u16; NODES];
+    let mut cells = [0u32; CELLS];
+    let mut marks = [0u8; NODES];
+    let mut buffer = [0u8; PLAN_BYTES];
+    let sent = plan_sheet(
+        sheet,
+        &mut starts,
+        &mut ends,
+        &mut weights,
+        &mut landings,
+        &mut cells,
+        &mut marks,
+        &mut buffer,
+    );
+    put_answer(text, sent, &starts, &ends, &weights, &buffer)
+}
+
+// The text for an input. As much of it as `text` has room for is written from its first byte on, and no other byte; what is returned is the
+// length of the whole text.
+pub fn desk_text(input: &[u8], text: &mut [u8]) -> usize
+    ensures { λ r. ⌜ r ≡ length (deskText (now (input .entry))) ⌝ }
+    ensures { λ _. ⌜ now (text .exit) ≡ fitOver (deskText (now (input .entry))) (now (text .entry)) ⌝ }
+    ensures { λ r. ⌜ r ≤ 8192 ⌝ }
+{
+    if MAX_BYTES < input.len() {
+        return put_word(text, 0, b"too long\n");
+    }
+    put_sheet(text, input)
+}
