@@ -1,0 +1,105 @@
+/*
+ * Uldhvamm, a planner of radio relays: the planning and the plan reader as C functions.
+ *
+ * Link with libuldhvamm.a, which `rt staticlib uldhvamm` writes to target/staticlib. It needs no runtime; of the C library it calls only
+ * memset.
+ *
+ * Slices
+ *   A table or a byte string passes as a pointer and the number of its entries. C asks of the pointers what it asks everywhere: each
+ *   points to that many entries, aligned for their type and, where the pointer is not const, writable; what is written overlaps
+ *   nothing else that is passed. Where the number of entries is 0 the pointer may be any, also NULL. Nothing else is asked: every byte
+ *   string is answered, and the tables and the buffer may hold anything and have any length.
+ *
+ * What is returned
+ *   0 for a plan or an accepted plan file; else the number of the refusal, ULDHVAMM_SHORT_SHEET to ULDHVAMM_FALSE_TOTAL below.
+ *
+ * What is written to answer
+ *   for a plan or an accepted plan file: root (the sending site), total (cents), number of legs; for a refusal: its place.
+ *   As many of these as answer has entries for are written, from its first entry on; its other entries are untouched.
+ *
+ * Stack
+ *   A call needs less than 32 KiB of stack. It allocates nothing, keeps nothing and may run in any number of threads at once.
+ */
+#ifndef ULDHVAMM_H
+#define ULDHVAMM_H
+
+#include <stddef.h>
+#include <stdint.h>
+
+#ifdef __cplusplus
+extern "C" {
+#endif
+
+/* The limits of a sheet, and a cell for which there is no tree. */
+#define ULDHVAMM_MAX_SITES 1024
+#define ULDHVAMM_MAX_STATIONS 10
+#define ULDHVAMM_MAX_LEGS 8192
+#define ULDHVAMM_NO_COST UINT32_C(4294967295)
+
+/* The refusals. The place of 1 to 10 counts in the sheet, that of 15 and 16 in the plan file; that of the others is 0. */
+enum {
+    ULDHVAMM_SHORT_SHEET = 1,
+    ULDHVAMM_STRANGE_MARK = 2,
+    ULDHVAMM_BAD_HEAD = 3,
+    ULDHVAMM_NO_SUCH_SITE = 4,
+    ULDHVAMM_NO_SUCH_STATION = 5,
+    ULDHVAMM_LOOP = 6,
+    ULDHVAMM_BAD_PRICE = 7,
+    ULDHVAMM_TOO_MANY_LEGS = 8,
+    ULDHVAMM_AFTER_THE_END = 9,
+    ULDHVAMM_UNHEARD = 10,
+    ULDHVAMM_SHORT_TABLES = 11,
+    ULDHVAMM_NO_PLAN = 12,
+    ULDHVAMM_SHORT_BUFFER = 13,
+    ULDHVAMM_CUT_PLAN = 14,
+    ULDHVAMM_BAD_PLAN = 15,
+    ULDHVAMM_UNKNOWN_NUMBER = 16,
+    ULDHVAMM_NO_TREE = 17,
+    ULDHVAMM_STATION_MISSED = 18,
+    ULDHVAMM_FALSE_TOTAL = 19
+};
+
+/*
+ * The engine: plans a sheet of n sites, k stations and m legs, and writes the plan file to the plan buffer.
+ *
+ * Long enough are: starts, ends and prices with m entries, landings with n, cells with n times 2^k, marks with n. Longer ones are as
+ * good. A plan file has 10 bytes and 4 for each leg, so 10 + 4 * (n - 1) bytes are always enough.
+ *
+ * After a plan, the first entries of the tables hold the legs in order (start, end, price), each site's set of stations, the costs,
+ * and 1 in each mark; the plan buffer begins with the plan file. ULDHVAMM_NO_PLAN and ULDHVAMM_SHORT_BUFFER leave the tables as after
+ * a plan, and the plan buffer untouched. The refusals 1 to 11 touch nothing but answer. Later entries and bytes are untouched.
+ */
+uint32_t uldhvamm_plan(
+    const uint8_t *sheet, size_t sheet_length,
+    uint16_t *starts, size_t starts_length,
+    uint16_t *ends, size_t ends_length,
+    uint32_t *prices, size_t prices_length,
+    uint16_t *landings, size_t landings_length,
+    uint32_t *cells, size_t cells_length,
+    uint8_t *marks, size_t marks_length,
+    uint8_t *plan, size_t plan_length,
+    uint64_t *answer, size_t answer_length);
+
+/*
+ * The plan reader: accepts a plan file, whoever wrote it, exactly when it is the file of a directed tree of the sheet's legs that
+ * holds a landing of every station, with its true total.
+ *
+ * The tables are as for the engine, without cells. From ULDHVAMM_CUT_PLAN on and on acceptance the leg and landing tables are filled;
+ * from ULDHVAMM_NO_TREE on and on acceptance the first n marks are 1 for the sites that the listed legs reach from the root, else 0.
+ * Before, the marks are untouched; the refusals 1 to 11 touch nothing but answer. Later entries are untouched.
+ */
+uint32_t uldhvamm_read_plan(
+    const uint8_t *sheet, size_t sheet_length,
+    const uint8_t *file, size_t file_length,
+    uint16_t *starts, size_t starts_length,
+    uint16_t *ends, size_t ends_length,
+    uint32_t *prices, size_t prices_length,
+    uint16_t *landings, size_t landings_length,
+    uint8_t *marks, size_t marks_length,
+    uint64_t *answer, size_t answer_length);
+
+#ifdef __cplusplus
+}
+#endif
+
+#endif
