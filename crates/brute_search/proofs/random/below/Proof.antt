@@ -1,0 +1,22 @@
+-- `below` is safe: what is left by a division is below the divisor, here at most 65535.
+-- Assumes nothing.
+use native.Mathlib.Omega.{arith}
+use native.Mathlib.Nat.{mod-lt}
+use borrow.Author.Needs.{needs}
+use Rattle.brute_search.proofs.random.below.Statement.{statement}
+use Rattle.brute_search.proofs.random.below.Tie as tie
+
+returns : tie.Need-returns
+returns c = search needs
+
+rem-result : tie.Need-rem-result
+rem-result c = search needs
+
+cast-result : tie.Need-cast-result
+cast-result c = omega (arith, mod-lt (c .before .args .number) {m = c .before .args .bound} (omega arith))
+
+returns-2 : tie.Need-returns-2
+returns-2 c = omega (arith, mod-lt (c .before .args .number) {m = c .before .args .bound} (omega arith))
+
+pub below-spec : {M : Type 1} → statement M
+below-spec = tie.close (tie.spec returns rem-result cast-result returns-2)
