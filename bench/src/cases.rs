@@ -1,0 +1,153 @@
+//! The cases of the benchmark: sheets to plan, plan files to read, and sheets that are only read.
+
+use uldhvamm_bench::compare::Call;
+use uldhvamm_bench::library;
+use uldhvamm_bench::sheets::{bad_reading, chain, filled_sheet, grid, random_sheet};
+use uldhvamm_bench::sheets::{Chain, Order, Sheet};
+use uldhvamm_bench::tables::{Lengths, Tables};
+
+/// A call with its sheet and the lengths of the lent tables.
+pub struct Case {
+    pub name: String,
+    pub call: Call,
+    pub sheet: Vec<u8>,
+    pub lengths: Lengths,
+    /// Whether a call may take seconds.
+    pub long: bool,
+}
+
+/// All cases.
+pub fn cases() -> Vec<Case> {
+    let mut cases = random_cases();
+    cases.extend(grid_cases());
+    cases.extend(chain_cases());
+    cases.extend(reading_cases());
+    cases
+}
+
+/// The lengths that a sheet needs.
+fn needed(sheet: &Sheet) -> Lengths {
+    let (n, k) = (usize::from(sheet.sites), usize::from(sheet.stations));
+    Lengths::needed(n, k, sheet.legs().len())
+}
+
+/// The planning of a sheet.
+fn plan_case(name: &str, sheet: Sheet) -> Case {
+    Case {
+        name: format!(
+            "plan: {name}, n {}, k {}, legs {}",
+            sheet.sites,
+            sheet.stations,
+            sheet.legs().len()
+        ),
+        call: Call::Plan,
+        lengths: needed(&sheet),
+        sheet: sheet.bytes(),
+        long: false,
+    }
+}
+
+/// Random sheets, large and small, with few and with many equal prices.
+fn random_cases() -> Vec<Case> {
+    vec![
+        plan_case("random", random_sheet(1, 1024, 10, 8192, 1_000_000)),
+        plan_case("random, prices 1 to 3", random_sheet(2, 1024, 10, 8192, 3)),
+        plan_case("random, one price", random_sheet(3, 1024, 10, 8192, 1)),
+        plan_case("random, few legs", random_sheet(4, 1024, 10, 2048, 1000)),
+        plan_case("random", random_sheet(5, 200, 8, 1600, 1000)),
+        plan_case("random", random_sheet(6, 64, 7, 512, 1000)),
+        plan_case("random", random_sheet(7, 16, 4, 64, 1000)),
+    ]
+}
+
+/// Grids of 32 times 32 sites.
+fn grid_cases() -> Vec<Case> {
+    vec![
+        plan_case("grid, mixed order", grid(8, 32, 10, Order::Mixed)),
+        plan_case("grid, row order", grid(8, 32, 10, Order::Rising)),
+        plan_case("grid, row order reversed", grid(8, 32, 10, Order::Falling)),
+    ]
+}
+
+/// A chain of 1,024 sites and 10 stations.
+fn long_chain(legs: usize, order: Order, whole: bool) -> Sheet {
+    let shape = Chain {
+        sites: 1024,
+        stations: 10,
+        legs,
+        order,
+        whole,
+    };
+    chain(9, shape)
+}
+
+/// Chains whose legs are listed in orders that are good and bad for passes over the legs.
+fn chain_cases() -> Vec<Case> {
+    let orders = [
+        ("from the far end", Order::Falling, false),
+        ("from the root", Order::Rising, false),
+        ("mixed order", Order::Mixed, true),
+        ("worst order", Order::Worst, true),
+    ];
+    let case = |legs, (name, order, long): (&str, Order, bool)| Case {
+        long,
+        ..plan_case(&format!("chain, {name}"), long_chain(legs, order, false))
+    };
+    let sizes = [1023, 8192].into_iter();
+    sizes
+        .flat_map(|legs| orders.map(|order| case(legs, order)))
+        .collect()
+}
+
+/// The reading of a plan file.
+fn reading_case(name: &str, sheet: &Sheet, file: Vec<u8>) -> Case {
+    Case {
+        name: format!("read: {name}"),
+        call: Call::Read(file),
+        lengths: needed(sheet),
+        sheet: sheet.bytes(),
+        long: false,
+    }
+}
+
+/// The plan file of a sheet that has a plan.
+fn plan_of(sheet: &Sheet) -> Vec<u8> {
+    let mut tables = Tables::with(needed(sheet), || 0);
+    let mut answer = [0; 3];
+    let number = library::plan(&sheet.bytes(), &mut tables, &mut answer);
+    assert_eq!(number, 0, "the sheet has a plan");
+    tables.plan.truncate(10 + 4 * answer[2] as usize);
+    tables.plan
+}
+
+/// Readings of plan files, and of sheets alone: a refusal by short tables judges the sheet, a file of no bytes loads it too.
+fn reading_cases() -> Vec<Case> {
+    let rising = long_chain(1023, Order::Rising, true);
+    let falling = long_chain(1023, Order::Falling, true);
+    let plan = plan_of(&falling);
+    let full = filled_sheet(10);
+    let mut judged = plan_case("only judged, short tables", full.clone());
+    judged.lengths.marks = 0;
+    vec![
+        reading_case(
+            "65,535 listed legs, bad order",
+            &rising,
+            bad_reading(1024).bytes(),
+        ),
+        reading_case("plan of 1,023 legs in order", &falling, plan.clone()),
+        reading_case(
+            "plan of 1,023 legs, order reversed",
+            &falling,
+            reversed(&plan),
+        ),
+        judged,
+        reading_case("largest sheet loaded, file of no bytes", &full, Vec::new()),
+    ]
+}
+
+/// A plan file with its legs in reversed order.
+fn reversed(file: &[u8]) -> Vec<u8> {
+    let (head, records) = file.split_at(10);
+    let records: Vec<&[u8]> = records.chunks(4).rev().collect();
+    [head, &records.concat()].concat()
+}

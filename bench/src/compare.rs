@@ -1,0 +1,87 @@
+//! Runs the library and the reference on equal copies of the same tables, and compares all that they leave.
+
+use crate::tables::{entry_difference, Tables};
+use crate::{library, reference};
+
+/// What a call returned and left.
+#[derive(Clone, Debug, PartialEq, Eq)]
+pub struct Run {
+    pub number: u32,
+    pub answer: Vec<u64>,
+    pub tables: Tables,
+}
+
+/// What is called.
+#[derive(Clone, Debug)]
+pub enum Call {
+    /// The planning.
+    Plan,
+    /// The reading of this plan file.
+    Read(Vec<u8>),
+}
+
+/// Calls the library. Only this is timed by the benchmark.
+pub fn call_library(call: &Call, sheet: &[u8], tables: &mut Tables, answer: &mut [u64]) -> u32 {
+    match call {
+        Call::Plan => library::plan(sheet, tables, answer),
+        Call::Read(file) => library::read_plan(sheet, file, tables, answer),
+    }
+}
+
+/// Calls the reference. Only this is timed by the benchmark.
+pub fn call_reference(call: &Call, sheet: &[u8], tables: &mut Tables, answer: &mut [u64]) -> u32 {
+    match call {
+        Call::Plan => reference::plan(sheet, tables, answer),
+        Call::Read(file) => reference::read_plan(sheet, file, tables, answer),
+    }
+}
+
+/// The first difference between two runs, the library's first, in words.
+pub fn difference(library: &Run, reference: &Run) -> Option<String> {
+    if library.number != reference.number {
+        return Some(format!(
+            "returned: {} and {}",
+            library.number, reference.number
+        ));
+    }
+    entry_difference("answer", &library.answer, &reference.answer)
+        .or_else(|| library.tables.difference(&reference.tables))
+}
+
+/// Runs both on copies of `tables` and `answer`. Gives the run where they agree, else the difference with sheet and file.
+pub fn both(call: &Call, sheet: &[u8], tables: &Tables, answer: &[u64]) -> Result<Run, String> {
+    let run = |called: fn(&Call, &[u8], &mut Tables, &mut [u64]) -> u32| {
+        let (mut tables, mut answer) = (tables.clone(), answer.to_vec());
+        let number = called(call, sheet, &mut tables, &mut answer);
+        Run {
+            number,
+            answer,
+            tables,
+        }
+    };
+    let (library, reference) = (run(call_library), run(call_reference));
+    match difference(&library, &reference) {
+        None => Ok(library),
+        Some(words) => Err(format!(
+            "library and reference differ in {words}\n{}",
+            described(call, sheet)
+        )),
+    }
+}
+
+/// A call's sheet, and its file if it has one, in hexadecimal.
+pub fn described(call: &Call, sheet: &[u8]) -> String {
+    match call {
+        Call::Plan => format!("planning, sheet {}", hexadecimal(sheet)),
+        Call::Read(file) => format!(
+            "reading, sheet {}\nfile {}",
+            hexadecimal(sheet),
+            hexadecimal(file)
+        ),
+    }
+}
+
+/// Bytes in hexadecimal, two digits each.
+pub fn hexadecimal(bytes: &[u8]) -> String {
+    bytes.iter().map(|byte| format!("{byte:02X}")).collect()
+}

@@ -1,0 +1,126 @@
+//! The static library as declared in include/uldhvamm.h, and a safe wrapper.
+//!
+//! A Rust slice points to as many entries as it has, aligned for their type, and a mutable one overlaps no other slice. The library
+//! asks for nothing else, so the wrapper tests nothing.
+
+#![allow(unsafe_code)]
+
+pub use crate::tables::{Answer, Lengths, Lent, Tables};
+
+extern "C" {
+    fn uldhvamm_plan(
+        sheet: *const u8,
+        sheet_length: usize,
+        starts: *mut u16,
+        starts_length: usize,
+        ends: *mut u16,
+        ends_length: usize,
+        prices: *mut u32,
+        prices_length: usize,
+        landings: *mut u16,
+        landings_length: usize,
+        cells: *mut u32,
+        cells_length: usize,
+        marks: *mut u8,
+        marks_length: usize,
+        plan: *mut u8,
+        plan_length: usize,
+        answer: *mut u64,
+        answer_length: usize,
+    ) -> u32;
+
+    fn uldhvamm_read_plan(
+        sheet: *const u8,
+        sheet_length: usize,
+        file: *const u8,
+        file_length: usize,
+        starts: *mut u16,
+        starts_length: usize,
+        ends: *mut u16,
+        ends_length: usize,
+        prices: *mut u32,
+        prices_length: usize,
+        landings: *mut u16,
+        landings_length: usize,
+        marks: *mut u8,
+        marks_length: usize,
+        answer: *mut u64,
+        answer_length: usize,
+    ) -> u32;
+}
+
+/// Plans a sheet. Returns 0 for a plan, else the number of the refusal.
+pub fn plan(sheet: &[u8], tables: &mut Tables, answer: &mut [u64]) -> u32 {
+    plan_lent(sheet, tables.lend(), answer)
+}
+
+/// Reads a plan file against a sheet. Returns 0 for an acceptance, else the number of the refusal. Cells and plan buffer are not lent.
+pub fn read_plan(sheet: &[u8], file: &[u8], tables: &mut Tables, answer: &mut [u64]) -> u32 {
+    read_plan_lent(sheet, file, tables.lend(), answer)
+}
+
+/// `plan` with slices.
+pub fn plan_lent(sheet: &[u8], lent: Lent, answer: &mut [u64]) -> u32 {
+    // SAFETY: each pointer and length are those of one slice; the mutable slices overlap nothing.
+    unsafe {
+        uldhvamm_plan(
+            sheet.as_ptr(),
+            sheet.len(),
+            lent.starts.as_mut_ptr(),
+            lent.starts.len(),
+            lent.ends.as_mut_ptr(),
+            lent.ends.len(),
+            lent.prices.as_mut_ptr(),
+            lent.prices.len(),
+            lent.landings.as_mut_ptr(),
+            lent.landings.len(),
+            lent.cells.as_mut_ptr(),
+            lent.cells.len(),
+            lent.marks.as_mut_ptr(),
+            lent.marks.len(),
+            lent.plan.as_mut_ptr(),
+            lent.plan.len(),
+            answer.as_mut_ptr(),
+            answer.len(),
+        )
+    }
+}
+
+/// `read_plan` with slices. The cells and the plan buffer of `lent` are left out.
+pub fn read_plan_lent(sheet: &[u8], file: &[u8], lent: Lent, answer: &mut [u64]) -> u32 {
+    // SAFETY: each pointer and length are those of one slice; the mutable slices overlap nothing.
+    unsafe {
+        uldhvamm_read_plan(
+            sheet.as_ptr(),
+            sheet.len(),
+            file.as_ptr(),
+            file.len(),
+            lent.starts.as_mut_ptr(),
+            lent.starts.len(),
+            lent.ends.as_mut_ptr(),
+            lent.ends.len(),
+            lent.prices.as_mut_ptr(),
+            lent.prices.len(),
+            lent.landings.as_mut_ptr(),
+            lent.landings.len(),
+            lent.marks.as_mut_ptr(),
+            lent.marks.len(),
+            answer.as_mut_ptr(),
+            answer.len(),
+        )
+    }
+}
+
+/// Plans a sheet and decodes the answer.
+pub fn answer_to_sheet(sheet: &[u8], tables: &mut Tables) -> Answer {
+    let mut answer = [0; 3];
+    let number = plan(sheet, tables, &mut answer);
+    Answer::decode(number, &answer)
+}
+
+/// Reads a plan file and decodes the answer.
+pub fn answer_to_file(sheet: &[u8], file: &[u8], tables: &mut Tables) -> Answer {
+    let mut answer = [0; 3];
+    let number = read_plan(sheet, file, tables, &mut answer);
+    Answer::decode(number, &answer)
+}

@@ -1,0 +1,128 @@
+//! The independent implementation, written from document 01 and the readings of docs/DECISIONS.md only.
+//!
+//! What the tables, the plan buffer and `answer` hold after the planning:
+//! - 1 to 11: all as before, but `answer` has the place;
+//! - 12 and 13: the first entries of the tables hold legs, landing sets, costs, and marks of 1; the plan buffer is as before;
+//!   `answer` has the place 0;
+//! - a plan: the tables as for 12, the plan buffer begins with the plan file, `answer` has root, total and number of legs.
+//!
+//! After the reading of a plan file, which leaves cells and plan buffer alone:
+//! - 1 to 11: all as before, but `answer` has the place;
+//! - 14, 15 and 16: leg tables and landing sets filled, marks as before; `answer` has the place;
+//! - 17, 18 and 19: these filled too, and the first n marks 1 for sites reached from the root, else 0; `answer` has the place 0;
+//! - acceptance: the tables as for 17, `answer` has root, total and number of legs.
+//!
+//! `answer` gets as many of its values as it has entries. Entries past those named are as before.
+
+mod groups;
+mod layout;
+mod plan_file;
+mod search;
+mod sheet;
+
+pub use sheet::{read as read_sheet, Leg, Sheet};
+
+use crate::tables::Tables;
+use plan_file::PlanFile;
+
+/// A cell for which there is no tree.
+pub const NO_COST: u32 = u32::MAX;
+
+/// A refusal: its number in document 01's table, and its place.
+#[derive(Clone, Copy, Debug, PartialEq, Eq)]
+pub struct Refusal {
+    pub number: u32,
+    pub place: usize,
+}
+
+impl Refusal {
+    /// A refusal at a place.
+    pub fn at(number: u32, place: usize) -> Refusal {
+        Refusal { number, place }
+    }
+}
+
+/// Plans a sheet. Returns 0 for a plan, else the number of the refusal.
+pub fn plan(bytes: &[u8], tables: &mut Tables, answer: &mut [u64]) -> u32 {
+    send_back(planned(bytes, tables), answer)
+}
+
+/// Reads a plan file against a sheet. Returns 0 for an acceptance, else the number of the refusal.
+pub fn read_plan(bytes: &[u8], file: &[u8], tables: &mut Tables, answer: &mut [u64]) -> u32 {
+    send_back(accepted(bytes, file, tables), answer)
+}
+
+/// Writes the values of an outcome into `answer`, as many as fit, and gives the number to return.
+fn send_back(outcome: Result<PlanFile, Refusal>, answer: &mut [u64]) -> u32 {
+    match outcome {
+        Ok(plan) => {
+            let values = [plan.root as u64, plan.total, plan.legs.len() as u64];
+            answer.iter_mut().zip(values).for_each(|(to, v)| *to = v);
+            0
+        }
+        Err(refusal) => {
+            answer
+                .iter_mut()
+                .take(1)
+                .for_each(|to| *to = refusal.place as u64);
+            refusal.number
+        }
+    }
+}
+
+/// The planning: the sheet, 11, the tables, 12, the layout, 13, the file.
+fn planned(bytes: &[u8], tables: &mut Tables) -> Result<PlanFile, Refusal> {
+    let sheet = sheet::read(bytes)?;
+    let size = sheet.sites << sheet.stations;
+    if !has_room(&sheet, tables) || tables.cells.len() < size {
+        return Err(Refusal::at(11, 0));
+    }
+    load(&sheet, tables);
+    search::fill(&sheet, &mut tables.cells[..size]);
+    tables.marks[..sheet.sites].fill(1);
+    let root = layout::best_root(&sheet, &tables.cells).ok_or(Refusal::at(12, 0))?;
+    let plan = layout::lay_out(&sheet, &tables.cells, root);
+    plan.write(&mut tables.plan)?;
+    Ok(plan)
+}
+
+/// The plan reader: the sheet, 11, the leg tables and landing sets, the file, the marks, 17, 18, 19.
+fn accepted(bytes: &[u8], file: &[u8], tables: &mut Tables) -> Result<PlanFile, Refusal> {
+    let sheet = sheet::read(bytes)?;
+    if !has_room(&sheet, tables) {
+        return Err(Refusal::at(11, 0));
+    }
+    load(&sheet, tables);
+    let plan = plan_file::read(&sheet, file)?;
+    let reached = plan_file::reached(&sheet, &plan);
+    for (mark, &is_reached) in tables.marks.iter_mut().zip(&reached) {
+        *mark = u8::from(is_reached);
+    }
+    plan_file::judge(&sheet, &plan, &reached)?;
+    Ok(plan)
+}
+
+/// Whether the leg tables, the landing sets and the marks are long enough.
+fn has_room(sheet: &Sheet, tables: &Tables) -> bool {
+    let legs = sheet.legs.len();
+    tables.starts.len() >= legs
+        && tables.ends.len() >= legs
+        && tables.prices.len() >= legs
+        && tables.landings.len() >= sheet.sites
+        && tables.marks.len() >= sheet.sites
+}
+
+/// Fills the leg tables and the landing sets.
+fn load(sheet: &Sheet, tables: &mut Tables) {
+    let rows = tables
+        .starts
+        .iter_mut()
+        .zip(&mut tables.ends)
+        .zip(&mut tables.prices);
+    for (((start, end), price), leg) in rows.zip(&sheet.legs) {
+        *start = leg.start;
+        *end = leg.end;
+        *price = leg.price;
+    }
+    tables.landings[..sheet.sites].copy_from_slice(&sheet.landings);
+}

@@ -1,0 +1,235 @@
+//! The library against the reference: thousands of small sheets and plan files, sound and damaged.
+//!
+//! The tables, the plan buffer and `answer` are filled with garbage, have the exact lengths, longer ones or shorter ones, and are
+//! compared whole. Each test counts the answers and fails where one that it aims at did not occur.
+
+use uldhvamm_bench::compare::{both, Call, Run};
+use uldhvamm_bench::reference;
+use uldhvamm_bench::sheets::{damaged, small_sheet, varied_file, wide_sheet};
+use uldhvamm_bench::sheets::{leg_records, PlanFile, Random, Sheet};
+use uldhvamm_bench::tables::{Lengths, Tables};
+
+/// How often each answer occurred; entry 0 is for plans and acceptances.
+struct Counts {
+    answers: [usize; 20],
+}
+
+impl Counts {
+    fn new() -> Counts {
+        Counts { answers: [0; 20] }
+    }
+
+    /// Prints the counts, and fails where an answer of `aims` occurred less than `least` times.
+    fn require(&self, name: &str, aims: &[usize], least: usize) {
+        println!("{name}: {:?}", self.answers);
+        for &aim in aims {
+            let times = self.answers[aim];
+            assert!(
+                times >= least,
+                "{name}: answer {aim} occurred {times} times"
+            );
+        }
+    }
+}
+
+/// Lends tables of garbage, runs both, fails where they differ, and counts the answer.
+fn check(
+    random: &mut Random,
+    counts: &mut Counts,
+    call: &Call,
+    sheet: &[u8],
+    lengths: Lengths,
+) -> Run {
+    let tables = Tables::with(lengths, || random.bits());
+    let entries = random.below(6);
+    let answer: Vec<u64> = (0..entries).map(|_| random.bits()).collect();
+    let run = both(call, sheet, &tables, &answer).unwrap_or_else(|words| panic!("{words}"));
+    counts.answers[run.number as usize] += 1;
+    run
+}
+
+/// The lengths for a sheet's bytes: those that it needs where it is good and not too large for a small test, else `otherwise`.
+fn needed_by(bytes: &[u8], otherwise: Lengths) -> Lengths {
+    match reference::read_sheet(bytes) {
+        Ok(sheet) if sheet.sites << sheet.stations <= 1 << 16 => {
+            Lengths::needed(sheet.sites, sheet.stations, sheet.legs.len())
+        }
+        _ => otherwise,
+    }
+}
+
+/// The lengths that a sheet needs.
+fn needed(sheet: &Sheet) -> Lengths {
+    let (n, k) = (usize::from(sheet.sites), usize::from(sheet.stations));
+    Lengths::needed(n, k, sheet.legs().len())
+}
+
+/// The lengths as they are, or some longer, or one shorter.
+fn varied(random: &mut Random, mut lengths: Lengths) -> Lengths {
+    let changed = random.below(3);
+    let mut tables = [
+        &mut lengths.starts,
+        &mut lengths.ends,
+        &mut lengths.prices,
+        &mut lengths.landings,
+        &mut lengths.cells,
+        &mut lengths.marks,
+    ];
+    if changed == 1 {
+        tables
+            .iter_mut()
+            .for_each(|length| **length += random.below(4));
+    }
+    if changed == 2 {
+        let short = &mut *tables[random.below(6)];
+        *short = short.saturating_sub(random.pick(&[1, 1, 1, 2, 1000]));
+    }
+    lengths
+}
+
+/// A length for the plan buffer around that of a plan file of `legs` legs.
+fn buffer_length(random: &mut Random, legs: usize) -> usize {
+    let file = 10 + 4 * legs;
+    random.pick(&[file, file, file + 1, file + 40, file - 1, file - 4, 9, 0])
+}
+
+/// The plan file of a sheet, if it has one, and the run of the planning with exact lengths.
+fn plan_of(random: &mut Random, counts: &mut Counts, sheet: &Sheet) -> Option<PlanFile> {
+    let run = check(random, counts, &Call::Plan, &sheet.bytes(), needed(sheet));
+    (run.number == 0).then(|| PlanFile::from_bytes(&run.tables.plan))
+}
+
+/// A small sheet, or now and then a wide one.
+fn any_sheet(random: &mut Random) -> Sheet {
+    match random.once_in(50) {
+        true => wide_sheet(random),
+        false => small_sheet(random),
+    }
+}
+
+#[test]
+fn sound_sheets_are_planned_alike() {
+    let mut counts = Counts::new();
+    for seed in 0..12_000 {
+        let random = &mut Random::new(seed);
+        let sheet = any_sheet(random);
+        let plan = plan_of(random, &mut counts, &sheet);
+        let mut lengths = varied(random, needed(&sheet));
+        let legs = plan.map_or(0, |plan| plan.legs.len());
+        lengths.plan = buffer_length(random, legs);
+        check(random, &mut counts, &Call::Plan, &sheet.bytes(), lengths);
+    }
+    counts.require("sound sheets planned", &[0, 11, 12, 13], 500);
+}
+
+#[test]
+fn damaged_sheets_are_planned_alike() {
+    let mut counts = Counts::new();
+    for seed in 100_000..140_000 {
+        let random = &mut Random::new(seed);
+        let sheet = small_sheet(random);
+        let bytes = damaged(random, &sheet);
+        let lengths = needed_by(&bytes, needed(&sheet));
+        let lengths = varied(random, lengths);
+        check(random, &mut counts, &Call::Plan, &bytes, lengths);
+    }
+    let aims = [0, 1, 2, 3, 4, 5, 6, 7, 9, 10, 11, 12];
+    counts.require("damaged sheets planned", &aims, 100);
+}
+
+#[test]
+fn random_bytes_are_planned_alike() {
+    let mut counts = Counts::new();
+    for seed in 200_000..205_000 {
+        let random = &mut Random::new(seed);
+        let length = random.below(40);
+        let mut bytes: Vec<u8> = (0..length).map(|_| random.bits() as u8).collect();
+        if random.once_in(2) {
+            bytes.splice(0..0, *b"HD\0\x02\x01");
+        }
+        let lengths = Lengths::needed(2, 1, 4);
+        check(random, &mut counts, &Call::Plan, &bytes, lengths);
+    }
+    counts.require("random bytes planned", &[1, 2], 100);
+}
+
+#[test]
+fn plan_files_are_read_alike() {
+    let mut counts = Counts::new();
+    let mut plans = Counts::new();
+    for seed in 300_000..308_000 {
+        let random = &mut Random::new(seed);
+        let sheet = any_sheet(random);
+        let plan = plan_of(random, &mut plans, &sheet);
+        let bytes = sheet.bytes();
+        if let Some(plan) = &plan {
+            let call = Call::Read(plan.bytes());
+            let run = check(random, &mut counts, &call, &bytes, needed(&sheet));
+            assert_eq!(run.number, 0, "the plan of a sheet is accepted");
+        }
+        for _ in 0..6 {
+            let file = varied_file(random, &sheet, plan.as_ref());
+            let lengths = match random.once_in(8) {
+                true => varied(random, needed(&sheet)),
+                false => needed(&sheet),
+            };
+            check(random, &mut counts, &Call::Read(file), &bytes, lengths);
+        }
+    }
+    let aims = [0, 11, 14, 15, 16, 17, 18, 19];
+    counts.require("plan files read", &aims, 500);
+}
+
+#[test]
+fn damaged_sheets_are_read_alike() {
+    let mut counts = Counts::new();
+    for seed in 400_000..410_000 {
+        let random = &mut Random::new(seed);
+        let sheet = small_sheet(random);
+        let bytes = damaged(random, &sheet);
+        let file = varied_file(random, &sheet, None);
+        let lengths = needed_by(&bytes, needed(&sheet));
+        let lengths = varied(random, lengths);
+        check(random, &mut counts, &Call::Read(file), &bytes, lengths);
+    }
+    let aims = [0, 1, 2, 3, 4, 5, 6, 7, 9, 10, 11, 14, 15, 16, 17, 18, 19];
+    counts.require("files read against damaged sheets", &aims, 20);
+}
+
+/// A sheet of 3 sites and 1 station with some legs.
+fn crowded(links: usize) -> Sheet {
+    let legs = (0..links).map(|leg| (leg % 3) as u16);
+    let sheet = Sheet::new(3, 1).landing(0, 2);
+    legs.fold(sheet, |sheet, from| {
+        sheet.link(from, (from + 1) % 3, 1 + u32::from(from))
+    })
+}
+
+#[test]
+fn the_limit_of_legs_is_kept_alike() {
+    let sheets = [
+        (crowded(8_191), 0),
+        (crowded(8_192), 0),
+        (crowded(8_193), 8),
+        (crowded(8_190).both(0, 1, 5), 0),
+        (crowded(8_191).both(0, 1, 5), 8),
+        (crowded(8_192).both(0, 1, 5), 8),
+        (crowded(8_192).landing(0, 1), 0),
+        (crowded(8_192).link(0, 1, 0), 7),
+        (crowded(8_192).link(1, 1, 0), 6),
+        (crowded(8_192).link(3, 3, 0), 4),
+        (crowded(8_192).both(2, 1, 1_000_001), 7),
+    ];
+    let random = &mut Random::new(500_000);
+    let mut counts = Counts::new();
+    for (sheet, number) in &sheets {
+        let bytes = sheet.bytes();
+        let lengths = Lengths::needed(3, 1, 8_193);
+        let run = check(random, &mut counts, &Call::Plan, &bytes, lengths);
+        assert_eq!(run.number, *number);
+        let file = Call::Read([&b"PN\0\x02\0\0\0\0\0\0"[..], &leg_records(&[])].concat());
+        let run = check(random, &mut counts, &file, &bytes, lengths);
+        assert_eq!(run.number, *number);
+    }
+    counts.require("sheets at the limit of legs", &[0, 4, 6, 7, 8], 2);
+}

@@ -1,0 +1,92 @@
+//! The library writes nothing outside of the slices that it is lent: these are parts of larger tables, whose rest is looked at.
+
+use uldhvamm_bench::library::{plan_lent, read_plan_lent};
+use uldhvamm_bench::sheets::{small_sheet, PlanFile, Random, Sheet};
+use uldhvamm_bench::tables::{Lengths, Lent, Tables};
+
+/// Entries of a table before and after the part that is lent.
+const GUARD: usize = 8;
+
+/// The lengths with a guard on both sides.
+fn guarded(lengths: Lengths) -> Lengths {
+    let longer = |length: usize| length + 2 * GUARD;
+    Lengths {
+        starts: longer(lengths.starts),
+        ends: longer(lengths.ends),
+        prices: longer(lengths.prices),
+        landings: longer(lengths.landings),
+        cells: longer(lengths.cells),
+        marks: longer(lengths.marks),
+        plan: longer(lengths.plan),
+    }
+}
+
+/// The part of a table between its guards.
+fn inner<T>(table: &mut [T]) -> &mut [T] {
+    let end = table.len() - GUARD;
+    &mut table[GUARD..end]
+}
+
+/// The parts of all tables between their guards.
+fn inner_parts(tables: &mut Tables) -> Lent<'_> {
+    Lent {
+        starts: inner(&mut tables.starts),
+        ends: inner(&mut tables.ends),
+        prices: inner(&mut tables.prices),
+        landings: inner(&mut tables.landings),
+        cells: inner(&mut tables.cells),
+        marks: inner(&mut tables.marks),
+        plan: inner(&mut tables.plan),
+    }
+}
+
+/// Copies the parts between the guards.
+fn copy_inner(from: &mut Tables, to: &mut Tables) {
+    let (from, to) = (inner_parts(from), inner_parts(to));
+    to.starts.copy_from_slice(from.starts);
+    to.ends.copy_from_slice(from.ends);
+    to.prices.copy_from_slice(from.prices);
+    to.landings.copy_from_slice(from.landings);
+    to.cells.copy_from_slice(from.cells);
+    to.marks.copy_from_slice(from.marks);
+    to.plan.copy_from_slice(from.plan);
+}
+
+/// Fails where the guards of `after` are not those of `before`.
+fn check_guards(before: &Tables, mut after: Tables, sheet: &Sheet) {
+    let mut expected = before.clone();
+    copy_inner(&mut after, &mut expected);
+    assert_eq!(after.difference(&expected), None, "{sheet:?}");
+}
+
+#[test]
+fn nothing_outside_is_written() {
+    let (mut plans, mut refusals) = (0, 0);
+    for seed in 700_000..702_000 {
+        let random = &mut Random::new(seed);
+        let sheet = small_sheet(random);
+        let bytes = sheet.bytes();
+        let (n, k) = (usize::from(sheet.sites), usize::from(sheet.stations));
+        let lengths = guarded(Lengths::needed(n, k, sheet.legs().len()));
+        let before = Tables::with(lengths, || random.bits());
+        let mut tables = before.clone();
+        let mut answer = [5; 7];
+        let number = plan_lent(&bytes, inner_parts(&mut tables), &mut answer[2..5]);
+        assert_eq!([answer[0], answer[1], answer[5], answer[6]], [5; 4]);
+        if number == 0 {
+            plans += 1;
+            let file = PlanFile::from_bytes(inner(&mut tables.plan)).bytes();
+            let mut reading = before.clone();
+            let lent = inner_parts(&mut reading);
+            assert_eq!(read_plan_lent(&bytes, &file, lent, &mut answer[2..3]), 0);
+            check_guards(&before, reading, &sheet);
+        } else {
+            refusals += 1;
+        }
+        check_guards(&before, tables, &sheet);
+    }
+    assert!(
+        plans > 500 && refusals > 500,
+        "{plans} plans, {refusals} refusals"
+    );
+}

@@ -1,0 +1,85 @@
+//! The library against the reference on sheets of 1,024 sites and 10 stations, tables compared whole.
+
+use uldhvamm_bench::compare::{both, Call, Run};
+use uldhvamm_bench::sheets::{bad_reading, chain, filled_sheet, grid, random_sheet};
+use uldhvamm_bench::sheets::{Chain, Order, PlanFile, Random, Sheet};
+use uldhvamm_bench::tables::{Lengths, Tables};
+
+/// Runs both with tables of garbage, a few entries longer than needed, and fails where they differ.
+fn check(call: &Call, sheet: &Sheet) -> Run {
+    let mut random = Random::new(1);
+    let (n, k) = (usize::from(sheet.sites), usize::from(sheet.stations));
+    let mut lengths = Lengths::needed(n, k, sheet.legs().len() + 2);
+    lengths.cells += 5;
+    lengths.marks += 3;
+    lengths.plan += 9;
+    let tables = Tables::with(lengths, || random.bits());
+    let answer: Vec<u64> = (0..4).map(|_| random.bits()).collect();
+    both(call, &sheet.bytes(), &tables, &answer).unwrap_or_else(|words| panic!("{words}"))
+}
+
+/// Plans a sheet and reads the plan; gives the number of legs.
+fn plan_and_read(sheet: &Sheet) -> usize {
+    let run = check(&Call::Plan, sheet);
+    assert_eq!(run.number, 0);
+    let plan = PlanFile::from_bytes(&run.tables.plan);
+    assert_eq!(check(&Call::Read(plan.bytes()), sheet).number, 0);
+    plan.legs.len()
+}
+
+/// A chain of 1,024 sites and 10 stations, one leg a step, whose plan has every step.
+fn whole_chain(order: Order) -> Sheet {
+    let shape = Chain {
+        sites: 1024,
+        stations: 10,
+        legs: 1023,
+        order,
+        whole: true,
+    };
+    chain(3, shape)
+}
+
+#[test]
+fn random_sheets_are_planned_alike() {
+    assert!(plan_and_read(&random_sheet(1, 1024, 10, 8192, 1000)) > 9);
+    assert!(plan_and_read(&random_sheet(2, 1024, 10, 8192, 3)) > 9);
+    assert!(plan_and_read(&random_sheet(3, 1023, 10, 8191, 1_000_000)) > 9);
+}
+
+#[test]
+fn a_grid_is_planned_alike() {
+    assert!(plan_and_read(&grid(4, 32, 10, Order::Mixed)) > 9);
+    assert!(plan_and_read(&grid(4, 32, 10, Order::Rising)) > 9);
+}
+
+#[test]
+fn a_chain_is_planned_alike() {
+    assert_eq!(plan_and_read(&whole_chain(Order::Falling)), 1023);
+    assert_eq!(plan_and_read(&whole_chain(Order::Mixed)), 1023);
+}
+
+#[test]
+fn a_sheet_at_every_limit_is_planned_alike() {
+    let sheet = filled_sheet(5);
+    assert_eq!(sheet.bytes().len(), 133_127);
+    assert_eq!(plan_and_read(&sheet), 0);
+}
+
+#[test]
+fn a_file_of_65535_legs_is_read_alike() {
+    let sheet = whole_chain(Order::Rising);
+    let file = bad_reading(1024);
+    assert_eq!(file.legs.len(), 65_535);
+    let run = check(&Call::Read(file.bytes()), &sheet);
+    assert_eq!(run.number, 17);
+    assert!(run.tables.marks[..1024].iter().all(|&mark| mark == 1));
+}
+
+#[test]
+fn dear_chains_are_planned_alike() {
+    let links = (0..1023).fold(Sheet::new(1024, 2), |sheet, from| {
+        sheet.link(from, from + 1, 1_000_000)
+    });
+    let run = check(&Call::Plan, &links.landing(0, 0).landing(1, 1023));
+    assert_eq!((run.number, run.answer[1]), (0, 1_023_000_000));
+}

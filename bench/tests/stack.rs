@@ -1,0 +1,79 @@
+//! The library in a thread with a stack of 32 KiB, which does nothing but the call.
+
+use std::thread;
+use uldhvamm_bench::compare::{call_library, call_reference, difference, Call, Run};
+use uldhvamm_bench::sheets::{chain, random_sheet, Chain, Order, Random, Sheet};
+use uldhvamm_bench::tables::{Lengths, Tables};
+
+const STACK: usize = 32 * 1024;
+
+/// Tables of garbage for a sheet.
+fn garbage(sheet: &Sheet) -> Tables {
+    let mut random = Random::new(1);
+    let (n, k) = (usize::from(sheet.sites), usize::from(sheet.stations));
+    Tables::with(Lengths::needed(n, k, sheet.legs().len()), || random.bits())
+}
+
+/// Calls the library in a thread with little stack.
+fn call_with_little_stack(call: &Call, sheet: &[u8], run: &mut Run) {
+    thread::scope(|scope| {
+        let work = || run.number = call_library(call, sheet, &mut run.tables, &mut run.answer);
+        let thread = thread::Builder::new()
+            .stack_size(STACK)
+            .spawn_scoped(scope, work);
+        thread
+            .expect("the thread starts")
+            .join()
+            .expect("the thread ends");
+    });
+}
+
+/// Compares a run in the small thread with a run of the reference in the test's own.
+fn check(call: &Call, sheet: &Sheet) -> Run {
+    let bytes = sheet.bytes();
+    let before = Run {
+        number: u32::MAX,
+        answer: vec![7; 3],
+        tables: garbage(sheet),
+    };
+    let (mut library, mut reference) = (before.clone(), before);
+    call_with_little_stack(call, &bytes, &mut library);
+    reference.number = call_reference(call, &bytes, &mut reference.tables, &mut reference.answer);
+    assert_eq!(difference(&library, &reference), None);
+    library
+}
+
+/// Plans a sheet and reads the plan.
+fn plan_and_read(sheet: &Sheet) -> u64 {
+    let planned = check(&Call::Plan, sheet);
+    assert_eq!(planned.number, 0);
+    let length = 10 + 4 * planned.answer[2] as usize;
+    let file = planned.tables.plan[..length].to_vec();
+    assert_eq!(check(&Call::Read(file), sheet).number, 0);
+    planned.answer[2]
+}
+
+#[test]
+fn a_chain_needs_little_stack() {
+    let shape = Chain {
+        sites: 1024,
+        stations: 10,
+        legs: 1023,
+        order: Order::Falling,
+        whole: true,
+    };
+    assert_eq!(plan_and_read(&chain(3, shape)), 1023);
+}
+
+#[test]
+fn a_random_sheet_needs_little_stack() {
+    assert!(plan_and_read(&random_sheet(1, 1024, 10, 8192, 1000)) > 9);
+}
+
+#[test]
+fn stations_at_one_site_need_little_stack() {
+    let sheet = (0..10).fold(Sheet::new(2, 10).link(0, 1, 3), |sheet, station| {
+        sheet.landing(station, 1)
+    });
+    assert_eq!(plan_and_read(&sheet), 0);
+}

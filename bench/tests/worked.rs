@@ -1,0 +1,135 @@
+//! The worked sheets A to L of document 01, with their answers written out, for the library and the reference.
+
+use uldhvamm_bench::compare::{both, Call};
+use uldhvamm_bench::sheets::{PlanFile, Random, Sheet};
+use uldhvamm_bench::tables::{Answer, Lengths, Tables};
+
+/// The plan file of sheet A, in hexadecimal.
+const FILE_OF_A: &str = "504E00000000000A00034C4700004C4700014C470002";
+
+fn sheet_a() -> Sheet {
+    Sheet::new(4, 3)
+        .link(0, 1, 4)
+        .link(1, 2, 3)
+        .link(1, 3, 3)
+        .link(0, 2, 5)
+        .link(0, 3, 6)
+        .landing(0, 2)
+        .landing(1, 3)
+        .landing(2, 0)
+}
+
+fn sheet_b() -> Sheet {
+    Sheet::new(1, 1).landing(0, 0)
+}
+
+fn sheet_d(price: u32) -> Sheet {
+    Sheet::new(2, 2)
+        .both(0, 1, price)
+        .landing(0, 0)
+        .landing(1, 1)
+}
+
+/// The bytes that a hexadecimal text stands for.
+fn from_hexadecimal(text: &str) -> Vec<u8> {
+    let digits = |place: usize| u8::from_str_radix(&text[place..place + 2], 16);
+    let places = (0..text.len()).step_by(2);
+    places
+        .map(|place| digits(place).expect("two digits"))
+        .collect()
+}
+
+/// Runs both with tables of garbage, and gives the answer and the tables afterwards.
+fn answer(call: Call, sheet: &[u8], lengths: Lengths) -> (Answer, Tables) {
+    let mut random = Random::new(7);
+    let tables = Tables::with(lengths, || random.bits());
+    let run = both(&call, sheet, &tables, &[9, 9, 9]).unwrap_or_else(|words| panic!("{words}"));
+    let values = [run.answer[0], run.answer[1], run.answer[2]];
+    (Answer::decode(run.number, &values), run.tables)
+}
+
+/// The answer to a sheet and, for a plan, its legs.
+fn planned(sheet: &[u8]) -> (Answer, Vec<u16>) {
+    let (answer, tables) = answer(Call::Plan, sheet, Lengths::needed(4, 3, 5));
+    match answer {
+        Answer::Plan { .. } => (answer, PlanFile::from_bytes(&tables.plan).legs),
+        Answer::Refused { .. } => (answer, Vec::new()),
+    }
+}
+
+/// The answer to a file against sheet A.
+fn read_against_a(file: &[u8]) -> Answer {
+    let call = Call::Read(file.to_vec());
+    answer(call, &sheet_a().bytes(), Lengths::needed(4, 3, 5)).0
+}
+
+fn plan(root: u64, total: u64, legs: &[u16]) -> (Answer, Vec<u16>) {
+    let count = legs.len() as u64;
+    (
+        Answer::Plan {
+            root,
+            total,
+            legs: count,
+        },
+        legs.to_vec(),
+    )
+}
+
+fn refused(number: u32, place: u64) -> Answer {
+    Answer::Refused { number, place }
+}
+
+#[test]
+fn a_is_planned() {
+    let sheet = sheet_a().bytes();
+    assert_eq!(sheet.len(), 72);
+    assert_eq!(planned(&sheet), plan(0, 10, &[0, 1, 2]));
+    let (_, tables) = answer(Call::Plan, &sheet, Lengths::needed(4, 3, 5));
+    assert_eq!(tables.plan, from_hexadecimal(FILE_OF_A));
+    assert_eq!(tables.starts, [0, 1, 1, 0, 0]);
+    assert_eq!(tables.ends, [1, 2, 3, 2, 3]);
+    assert_eq!(tables.prices, [4, 3, 3, 5, 6]);
+    assert_eq!(tables.landings, [4, 0, 1, 2]);
+    assert_eq!(tables.marks, [1, 1, 1, 1]);
+    let none = u32::MAX;
+    let expected = [
+        [0, 5, 6, 10, 0, 5, 6, 10],
+        [0, 3, 3, 6, none, none, none, none],
+        [0, 0, none, none, none, none, none, none],
+        [0, none, 0, none, none, none, none, none],
+    ];
+    assert_eq!(tables.cells, expected.concat());
+}
+
+#[test]
+fn b_to_e_are_answered() {
+    assert_eq!(planned(&sheet_b().bytes()), plan(0, 0, &[]));
+    let c = Sheet::new(3, 2).link(0, 1, 9).link(0, 2, 4);
+    let c = c.landing(0, 0).landing(1, 1).landing(1, 2);
+    assert_eq!(planned(&c.bytes()), plan(0, 4, &[1]));
+    assert_eq!(planned(&sheet_d(7).bytes()), plan(0, 7, &[0]));
+    let e = Sheet::new(2, 2).landing(0, 0).landing(1, 1);
+    assert_eq!(planned(&e.bytes()).0, refused(12, 0));
+}
+
+#[test]
+fn f_to_j_are_answered() {
+    assert_eq!(planned(&sheet_d(0).bytes()).0, refused(7, 5));
+    let g = planned(&sheet_d(1_000_000).bytes());
+    assert_eq!(g, plan(0, 1_000_000, &[0]));
+    assert_eq!(planned(&sheet_d(1_000_001).bytes()).0, refused(7, 5));
+    assert_eq!(planned(&[]).0, refused(1, 0));
+    let mut j = sheet_b().bytes();
+    j.push(0);
+    assert_eq!(planned(&j).0, refused(9, 12));
+}
+
+#[test]
+fn files_of_a_are_read() {
+    let file = from_hexadecimal(FILE_OF_A);
+    assert_eq!(read_against_a(&file), plan(0, 10, &[0, 1, 2]).0);
+    let k = "504E00000000000A00044C4700004C4700014C4700024C470002";
+    assert_eq!(read_against_a(&from_hexadecimal(k)), refused(17, 0));
+    let l = "504E00000000000B00034C4700004C4700014C470002";
+    assert_eq!(read_against_a(&from_hexadecimal(l)), refused(19, 0));
+}
