@@ -1,0 +1,133 @@
+"""The library's functions as the header declares them: what they write to answers and tables of any length, and what they leave alone."""
+
+from __future__ import annotations
+
+import ctypes
+import random
+import unittest
+from typing import Any, Optional
+
+from uldhvamm import build_plan
+from uldhvamm.library import default_path
+from uldhvamm.native import functions_of
+from worked import FILE_K, FILE_L, FILE_OF_A, SHEETS
+
+NONE = 4294967295
+
+# The tables in the header's order, with their entries.
+ENTRIES = {
+    "starts": ctypes.c_uint16,
+    "ends": ctypes.c_uint16,
+    "prices": ctypes.c_uint32,
+    "landings": ctypes.c_uint16,
+    "cells": ctypes.c_uint32,
+    "marks": ctypes.c_uint8,
+    "plan": ctypes.c_uint8,
+    "answer": ctypes.c_uint64,
+}
+
+# What sheets A and E leave in the tables.
+LEGS_OF_A = {"starts": [0, 1, 1, 0, 0], "ends": [1, 2, 3, 2, 3], "prices": [4, 3, 3, 5, 6], "landings": [4, 0, 1, 2]}
+CELLS_OF_A = [
+    *[0, 5, 6, 10, 0, 5, 6, 10],
+    *[0, 3, 3, 6, NONE, NONE, NONE, NONE],
+    *[0, 0, NONE, NONE, NONE, NONE, NONE, NONE],
+    *[0, NONE, 0, NONE, NONE, NONE, NONE, NONE],
+]
+TABLES_OF_A: dict[str, list[int]] = {**LEGS_OF_A, "cells": CELLS_OF_A, "marks": [1, 1, 1, 1]}
+TABLES_OF_E = {"landings": [1, 2], "cells": [0, 0, NONE, NONE, 0, NONE, 0, NONE], "marks": [1, 1]}
+
+# The least lengths for sheet A, and its plan file's.
+NEEDED = {"starts": 5, "ends": 5, "prices": 5, "landings": 4, "cells": 32, "marks": 4, "plan": 22}
+
+
+def over(first: list[int], entries: list[int]) -> list[int]:
+    """Entries of which the first ones are others."""
+    return first + entries[len(first) :]
+
+
+class Native(unittest.TestCase):
+    """Each call is lent the first entries of arrays that are filled with garbage, and all of their entries are compared afterwards."""
+
+    def setUp(self) -> None:
+        self.functions = functions_of(default_path())
+        self.chance = random.Random(6)
+
+    def call(self, sheet: bytes, file: Optional[bytes], lengths: dict[str, int]) -> tuple[int, dict[str, list[int]], dict[str, list[int]]]:
+        """Plans a sheet, or reads a file where one is given. The number that is returned, and the arrays before and after."""
+        arrays: dict[str, Any] = {name: self.garbage(entry, lengths[name] + 3) for name, entry in ENTRIES.items()}
+        before = {name: list(array) for name, array in arrays.items()}
+        strings = [sheet] if file is None else [sheet, file]
+        arguments: list[Any] = [part for string in strings for part in (string, len(string))]
+        for name in ENTRIES:
+            if file is None or name not in ("cells", "plan"):
+                arguments += [arrays[name], lengths[name]]
+        number = (self.functions.plan if file is None else self.functions.read_plan)(*arguments)
+        return number, before, {name: list(array) for name, array in arrays.items()}
+
+    def garbage(self, entry: Any, length: int) -> Any:
+        """An array of random entries."""
+        return (entry * length)(*(self.chance.getrandbits(8 * ctypes.sizeof(entry)) for _ in range(length)))
+
+    def tried(
+        self, sheet: bytes, file: Optional[bytes], number: int, values: list[int], written: dict[str, list[int]], **other: int
+    ) -> None:
+        """Tests a call with answers of 0 to 4 entries: its number, the values in the answer, what is written, and that no more is."""
+        for length in range(5):
+            returned, before, after = self.call(sheet, file, {**NEEDED, **other, "answer": length})
+            self.assertEqual(returned, number, other)
+            expected = {**written, "answer": values[:length]}
+            self.assertEqual(after, {name: over(expected.get(name, []), entries) for name, entries in before.items()}, (length, other))
+
+    def test_a_plan(self) -> None:
+        self.tried(SHEETS["A"], None, 0, [0, 10, 3], {**TABLES_OF_A, "plan": list(FILE_OF_A)})
+
+    def test_longer_tables(self) -> None:
+        longer = {name: length + 2 for name, length in NEEDED.items()}
+        self.tried(SHEETS["A"], None, 0, [0, 10, 3], {**TABLES_OF_A, "plan": list(FILE_OF_A)}, **longer)
+        self.tried(SHEETS["A"], FILE_OF_A, 0, [0, 10, 3], {**LEGS_OF_A, "marks": [1, 1, 1, 1]}, **longer)
+
+    def test_refusals_of_the_sheet_write_the_place_alone(self) -> None:
+        for name, number, place in [("F", 7, 5), ("I", 1, 0), ("J", 9, 12)]:
+            self.tried(SHEETS[name], None, number, [place], {})
+            self.tried(SHEETS[name], FILE_OF_A, number, [place], {})
+
+    def test_short_tables_write_the_place_alone(self) -> None:
+        for name in ["starts", "ends", "prices", "landings", "cells", "marks"]:
+            for length in [0, NEEDED[name] - 1]:
+                self.tried(SHEETS["A"], None, 11, [0], {}, **{name: length})
+                if name != "cells":
+                    self.tried(SHEETS["A"], FILE_OF_A, 11, [0], {}, **{name: length})
+
+    def test_no_plan_fills_the_tables(self) -> None:
+        self.tried(SHEETS["E"], None, 12, [0], TABLES_OF_E)
+        self.tried(SHEETS["E"], None, 12, [0], TABLES_OF_E, plan=0, starts=0, ends=0, prices=0)
+
+    def test_a_short_buffer_is_untouched(self) -> None:
+        for length in [0, 10, 21]:
+            self.tried(SHEETS["A"], None, 13, [0], TABLES_OF_A, plan=length)
+
+    def test_an_acceptance(self) -> None:
+        self.tried(SHEETS["A"], FILE_OF_A, 0, [0, 10, 3], {**LEGS_OF_A, "marks": [1, 1, 1, 1]})
+
+    def test_refusals_of_the_file(self) -> None:
+        marked = {**LEGS_OF_A, "marks": [1, 1, 1, 1]}
+        self.tried(SHEETS["A"], b"", 14, [0], LEGS_OF_A)
+        self.tried(SHEETS["A"], FILE_OF_A + b"\0", 15, [22], LEGS_OF_A)
+        self.tried(SHEETS["A"], build_plan(0, 10, [0, 5]), 16, [14], LEGS_OF_A)
+        self.tried(SHEETS["A"], FILE_K, 17, [0], marked)
+        self.tried(SHEETS["A"], build_plan(0, 7, [0, 1]), 18, [0], {**LEGS_OF_A, "marks": [1, 1, 1, 0]})
+        self.tried(SHEETS["A"], FILE_L, 19, [0], marked)
+
+    def test_null_pointers_for_empty_tables(self) -> None:
+        empty: list[Any] = [None, 0]
+        answer = (ctypes.c_uint64 * 3)(9, 9, 9)
+        self.assertEqual(self.functions.plan(*empty * 8, answer, 3), 1)
+        self.assertEqual(self.functions.read_plan(*empty * 7, answer, 3), 1)
+        self.assertEqual(list(answer), [0, 9, 9])
+        self.assertEqual(self.functions.plan(SHEETS["A"], 72, *empty * 8), 11)
+        self.assertEqual(self.functions.read_plan(SHEETS["A"], 72, *empty * 7), 11)
+
+
+if __name__ == "__main__":
+    unittest.main()

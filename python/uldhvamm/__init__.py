@@ -1,0 +1,36 @@
+"""Uldhvamm, a planner of radio relays, for Python.
+
+From a sheet (sites, priced one-way legs, listening stations, and the sites where each station can be heard) the planner finds the
+cheapest directed tree of legs that reaches every station. The planning and the plan reader are those of the library libuldhvamm.so;
+this package encodes sheets and plan files, calls the library and decodes its answers. It needs nothing but the standard library.
+
+    from uldhvamm import BothWays, Landing, Leg, Plan, build_sheet, load
+
+    library = load()
+    sheet = build_sheet(3, 2, [Leg(0, 1, 900), BothWays(1, 2, 400), Landing(0, 0), Landing(1, 2)])
+    answer = library.plan(sheet)
+    if isinstance(answer, Plan):
+        print(answer.root, answer.total, answer.legs)
+    else:
+        print(answer)
+"""
+
+from .answers import Accepted, Family, Plan, PlannedLeg, Refusal
+from .formats import BothWays, Landing, Leg, Row, build_plan, build_sheet
+from .library import Library, load
+
+__all__ = [
+    "Accepted",
+    "BothWays",
+    "Family",
+    "Landing",
+    "Leg",
+    "Library",
+    "Plan",
+    "PlannedLeg",
+    "Refusal",
+    "Row",
+    "build_plan",
+    "build_sheet",
+    "load",
+]

@@ -1,0 +1,148 @@
+"""The planner's library: loading it, lending it tables, and decoding what it answers."""
+
+from __future__ import annotations
+
+import ctypes
+import os
+import struct
+from pathlib import Path
+from typing import Any, Union
+
+from .answers import Accepted, Plan, PlannedLeg, Refusal
+from .native import Functions, functions_of
+
+MAX_SITES = 1024
+MAX_STATIONS = 10
+MAX_LEGS = 8192
+
+# The types of the tables for a sheet at the limits. A plan file has 10 bytes and 4 for each leg, and a tree has fewer legs than sites.
+_LegSites = ctypes.c_uint16 * MAX_LEGS
+_LegPrices = ctypes.c_uint32 * MAX_LEGS
+_SiteSets = ctypes.c_uint16 * MAX_SITES
+_SiteMarks = ctypes.c_uint8 * MAX_SITES
+_PlanBytes = ctypes.c_uint8 * (10 + 4 * (MAX_SITES - 1))
+_Answer = ctypes.c_uint64 * 3
+
+
+class _Tables:
+    """The tables and the buffer that one call is lent, and its answer.
+
+    All but the cells have the length that a sheet at the limits needs, about 70 kB together. So they are long enough for every good
+    sheet, and no other sheet needs any. The cells of a sheet at the limits have 4 MB, which take longer to clear than a small sheet
+    takes to plan. So their number is taken from the head, by `_cells_for`.
+    """
+
+    def __init__(self, cells: int) -> None:
+        self.starts = _LegSites()
+        self.ends = _LegSites()
+        self.prices = _LegPrices()
+        self.landings = _SiteSets()
+        self.cells = (ctypes.c_uint32 * cells)()
+        self.marks = _SiteMarks()
+        self.plan = _PlanBytes()
+        self.answer = _Answer()
+
+    def leg(self, number: int) -> PlannedLeg:
+        """The leg with this number."""
+        return PlannedLeg(number, self.starts[number], self.ends[number], self.prices[number])
+
+    def planned(self) -> Plan:
+        """The plan that the call has left."""
+        root, total, count = self.answer[:]
+        file = bytes(self.plan[: 10 + 4 * count])
+        numbers = (number for _, number in struct.iter_unpack(">2sH", file[10:]))
+        return Plan(root, total, tuple(self.leg(number) for number in numbers), file)
+
+
+class Library:
+    """The planning and the plan reader of a shared library.
+
+    A call has tables of its own and keeps nothing, so one Library may be used in any number of threads at once. The interpreter's
+    lock is free while the library works.
+    """
+
+    def __init__(self, path: Path) -> None:
+        self._functions: Functions = functions_of(path)
+
+    def plan(self, sheet: bytes) -> Union[Plan, Refusal]:
+        """The cheapest plan for a sheet, or why there is none."""
+        given = _plain(sheet)
+        tables = _Tables(_cells_for(given))
+        number = self._functions.plan(
+            *_lent(given),
+            *_lent(tables.starts),
+            *_lent(tables.ends),
+            *_lent(tables.prices),
+            *_lent(tables.landings),
+            *_lent(tables.cells),
+            *_lent(tables.marks),
+            *_lent(tables.plan),
+            *_lent(tables.answer),
+        )
+        return tables.planned() if number == 0 else Refusal(number, tables.answer[0])
+
+    def read_plan(self, sheet: bytes, file: bytes) -> Union[Accepted, Refusal]:
+        """Whether a plan file is that of a directed tree of the sheet's legs that reaches every station, with its true total."""
+        given = _plain(sheet)
+        read = _plain(file)
+        tables = _Tables(0)
+        number = self._functions.read_plan(
+            *_lent(given),
+            *_lent(read),
+            *_lent(tables.starts),
+            *_lent(tables.ends),
+            *_lent(tables.prices),
+            *_lent(tables.landings),
+            *_lent(tables.marks),
+            *_lent(tables.answer),
+        )
+        return Accepted(*tables.answer[:]) if number == 0 else Refusal(number, tables.answer[0])
+
+
+def load(path: Union[str, os.PathLike[str], None] = None) -> Library:
+    """The library at a path.
+
+    Without a path it is the file that the environment variable ULDHVAMM_LIBRARY names, else target/outside/libuldhvamm.so in the
+    repository that holds this package.
+    """
+    file = default_path() if path is None else Path(path)
+    if not file.is_file():
+        raise FileNotFoundError(
+            f"{file} is missing. The command `tests/outside`, run in the repository's root, builds target/outside/libuldhvamm.so."
+        )
+    return Library(file)
+
+
+def default_path() -> Path:
+    """The file that is loaded when no path is given."""
+    named = os.environ.get("ULDHVAMM_LIBRARY")
+    if named:
+        return Path(named)
+    return Path(__file__).resolve().parents[2] / "target" / "outside" / "libuldhvamm.so"
+
+
+def _cells_for(sheet: bytes) -> int:
+    """The number of cells that a sheet needs: sites times 2 to the power of stations.
+
+    A head that is cut or above a limit makes no good sheet, and needs none. Nothing rests on this function but that a good sheet is
+    planned: the library reads the head itself, and answers 11 where the cells are too few.
+    """
+    if len(sheet) < 5:
+        return 0
+    sites, stations = struct.unpack_from(">HB", sheet, 2)
+    if sites > MAX_SITES or stations > MAX_STATIONS:
+        return 0
+    cells: int = sites << stations
+    return cells
+
+
+def _plain(data: bytes) -> bytes:
+    """The bytes themselves; those of a subclass, which may have a length of its own, are copied."""
+    if not isinstance(data, bytes):
+        raise TypeError(f"bytes are needed, not {type(data).__name__}")
+    return bytes(data)
+
+
+def _lent(entries: Any) -> tuple[Any, int]:
+    """A table or a byte string as the library takes it: where it begins, and the number of its entries."""
+    return entries, len(entries)
