@@ -36,7 +36,7 @@ use Rattle.mission.specs.PointLaws.{refused-not-plan, same-plan}
 use Rattle.engine.specs.Engine.{Plan, planOf, searched, withFile, planningOf}
 use Rattle.engine.specs.Rules.{by-cases}
 use Rattle.engine.specs.Found.{PlanFound, sheet-found}
-use Rattle.desk.specs.Text.{refusalLine, firstLine, arcLine, refusalText, arcText, planText, deskArcs, deskNodes, deskCells, deskFits, sheetText}
+use Rattle.desk.specs.Text.{refusalLine, firstLine, arcLine, refusalText, arcText, planText, deskArcs, deskNodes, deskCells, deskTree, deskFits, sheetText}
 use Rattle.desk.specs.Stored.{Stored, stored-then}
 use Rattle.desk.specs.Listed.{lineOf, ArcsHeld}
 
@@ -54,7 +54,7 @@ answerText noSender starts ends weights buffer = []
 -- the legs of a plan are held, and there are fewer of them than sites
 pub record Listable (s : Stated) (starts ends weights buffer : List ℕ) : Type 0 where
   pub held : (root cost count : ℕ) → s ≡ plan root cost count → ArcsHeld buffer count starts ends weights
-  pub few : (root cost count : ℕ) → s ≡ plan root cost count → count ≤ 63
+  pub few : (root cost count : ℕ) → s ≡ plan root cost count → count ≤ deskTree
 
 -- the answer to a sheet has the text of the sheet
 pub record Answered (sheet : List ℕ) (s : Stated) (starts ends weights buffer : List ℕ) : Type 0 where
@@ -114,13 +114,13 @@ pub record DeskTables (t : EngineTables) : Type 0 where
   pub landings : length (t .tables .landings) ≡ deskNodes
   pub cells : length (t .cells) ≡ deskCells
   pub marks : length (t .marks) ≡ deskNodes
-  pub buffer : length (t .buffer) ≡ fileSize 63
+  pub buffer : length (t .buffer) ≡ fileSize deskTree
 
 -- the program's tables, all zeros
 abbrev pub zeros : EngineTables
 zeros =
     engineTables (tables (replicate deskArcs 0) (replicate deskArcs 0) (replicate deskArcs 0) (replicate deskNodes 0))
-    (replicate deskCells 0) (replicate deskNodes 0) (replicate (fileSize 63) 0)
+    (replicate deskCells 0) (replicate deskNodes 0) (replicate (fileSize deskTree) 0)
 
 pub zeros-desk : DeskTables zeros
 zeros-desk = record {
@@ -130,7 +130,7 @@ zeros-desk = record {
   landings = length-replicate {A = ℕ} deskNodes 0;
   cells = length-replicate {A = ℕ} deskCells 0;
   marks = length-replicate {A = ℕ} deskNodes 0;
-  buffer = length-replicate {A = ℕ} (fileSize 63) 0;
+  buffer = length-replicate {A = ℕ} (fileSize deskTree) 0;
 }
 
 module _ (n k m : ℕ) (t : EngineTables) (d : DeskTables t) where
@@ -177,7 +177,7 @@ module _ (sheet : List ℕ) (bytes : Bytes sheet) (t : EngineTables) (n k : ℕ)
   after = withFile p (searched n k records t)
 
   -- fewer legs than sites
-  few-arcs : length (p .arcs) ≤ 63
+  few-arcs : length (p .arcs) ≤ deskTree
   few-arcs = omega (arith, found .few, long .tables .landings, d .landings)
 
   -- the plan buffer lists the plan's legs
@@ -233,7 +233,7 @@ module _ (sheet : List ℕ) (bytes : Bytes sheet) (t : EngineTables) (n k : ℕ)
     listable = record {
       held = λ root cost count same.
           same-plan (λ a b c. ArcsHeld (after .buffer) c (after .tables .starts) (after .tables .ends) (after .tables .weights)) same plan-held;
-      few = λ root cost count same. same-plan (λ a b c. c ≤ 63) same few-arcs;
+      few = λ root cost count same. same-plan (λ a b c. c ≤ deskTree) same few-arcs;
     };
   }
 

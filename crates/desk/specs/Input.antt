@@ -9,15 +9,15 @@ use lib.Dec.{ltb}
 use lib.ListN.{length}
 use borrow.Author.Tests.{lt-ltb, le-ltb}
 use Rattle.lists.specs.Over.{fitOver}
-use Rattle.desk.specs.Text.{ascii, deskBytes, sheetText, deskText}
+use Rattle.desk.specs.Text.{ascii, deskBytes, textBytes, sheetText, deskText}
 use Rattle.desk.specs.Stored.{Stored, stored-same, stored-first}
 
 -- what is written for the input, and what is returned
 abbrev Written : (input : List ℕ) → (end : ℕ) → (before after : List ℕ) → Type 0
-Written input end before after = (end ≡ length (deskText input)) × ((after ≡ fitOver (deskText input) before) × (end ≤ 8192))
+Written input end before after = (end ≡ length (deskText input)) × ((after ≡ fitOver (deskText input) before) × (end ≤ textBytes))
 
 module _ (input : List ℕ) where
-  written : {end : ℕ} {before after : List ℕ} (text : List ℕ) → text ≡ deskText input → Stored text 0 end before after → end ≤ 8192
+  written : {end : ℕ} {before after : List ℕ} (text : List ℕ) → text ≡ deskText input → Stored text 0 end before after → end ≤ textBytes
       → Written input end before after
   written text e s few = let (whole, stored) = stored-first (stored-same e s) in (whole, (stored, few))
 
@@ -28,6 +28,6 @@ module _ (input : List ℕ) where
       → Written input end before after
   too-long h s = written (ascii "too long\n") (text-by true (lt-ltb deskBytes (length input) h)) s (omega (arith, s .place))
 
-  pub short-enough : {end : ℕ} {before after : List ℕ} → length input ≤ deskBytes → Stored (sheetText input) 0 end before after → end ≤ 8192
+  pub short-enough : {end : ℕ} {before after : List ℕ} → length input ≤ deskBytes → Stored (sheetText input) 0 end before after → end ≤ textBytes
       → Written input end before after
   short-enough h s few = written (sheetText input) (text-by false (le-ltb deskBytes (length input) h)) s few

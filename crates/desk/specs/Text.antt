@@ -1,7 +1,7 @@
 -- What the desk program writes for every input (document 01, "The desk program and worked sheets"): `too long`, `refused N at P`, or the
 -- listing of the plan. Every line ends in a line feed.
 -- Assumes nothing.
-use Prim.Native.Nat.{ℕ, zero, suc, _+_, _*_, _/_, _%_, _^_}
+use Prim.Native.Nat.{ℕ, zero, suc, _+_, _-_, _*_, _/_, _%_, _^_}
 use Prim.Native.Char.{code}
 use Prim.Native.String.{String}
 use Prim.Native.String.{[] as end-of-text, _∷_ as _then_}
@@ -89,7 +89,11 @@ deskNodes = 64
 abbrev pub deskCells : ℕ
 deskCells = 8192
 
--- whether a sheet with n sites, k stations and m legs has room in the tables; the plan buffer "holds any tree of 64 sites", so 13 is never due
+-- the legs of a tree of 64 sites: "a plan buffer that holds any tree of 64 sites"
+abbrev pub deskTree : ℕ
+deskTree = deskNodes - 1
+
+-- whether a sheet with n sites, k stations and m legs has room in the tables; the plan buffer has room for every plan, so 13 is never due
 abbrev pub deskFits : (n k m : ℕ) → Bool
 deskFits n k m = leb m deskArcs && (leb n deskNodes && leb (n * 2 ^ k) deskCells)
 
@@ -106,6 +110,10 @@ sheetText sheet =
     deskFits
     (λ n k records. planText (graphOf n k records) (planOf (graphOf n k records)))
     (verdict sheet)
+
+-- no text has more bytes
+abbrev pub textBytes : ℕ
+textBytes = 8192
 
 -- the text of an input
 abbrev pub deskText : List ℕ → List ℕ

@@ -11,7 +11,7 @@ ghost use Prim.Native.Nat.{_≤_};
 ghost use lib.ListN.{length};
 ghost use Rattle.lists.specs.Over.{fitOver};
 ghost use Rattle.answer.specs.Stated.{stated};
-ghost use Rattle.desk.specs.Text.{deskText, sheetText};
+ghost use Rattle.desk.specs.Text.{textBytes, deskText, sheetText};
 ghost use Rattle.desk.specs.Stored.{Stored};
 ghost use Rattle.desk.specs.Answered.{answerText, Listable};
 
@@ -41,7 +41,7 @@ fn put_answer(
     requires { ⌜ Listable (stated sent) (now starts) (now ends) (now weights) (now buffer) ⌝ }
     ensures { λ r. ⌜ Stored (answerText (stated sent) (now (starts .entry)) (now (ends .entry)) (now (weights .entry)) (now (buffer .entry)))
         0 r (now (text .entry)) (now (text .exit)) ⌝ }
-    ensures { λ r. ⌜ r ≤ 8192 ⌝ }
+    ensures { λ r. ⌜ r ≤ textBytes ⌝ }
 {
     match sent {
         Answer::Plan { root, total, arcs } => {
@@ -58,7 +58,7 @@ fn put_answer(
 // The text of a sheet.
 fn put_sheet(text: &mut [u8], sheet: &[u8]) -> usize
     ensures { λ r. ⌜ Stored (sheetText (now (sheet .entry))) 0 r (now (text .entry)) (now (text .exit)) ⌝ }
-    ensures { λ r. ⌜ r ≤ 8192 ⌝ }
+    ensures { λ r. ⌜ r ≤ textBytes ⌝ }
 {
     let mut starts = [0u16; ARCS];
     let mut ends = [0u16; ARCS];
@@ -85,7 +85,7 @@ fn put_sheet(text: &mut [u8], sheet: &[u8]) -> usize
 pub fn desk_text(input: &[u8], text: &mut [u8]) -> usize
     ensures { λ r. ⌜ r ≡ length (deskText (now (input .entry))) ⌝ }
     ensures { λ _. ⌜ now (text .exit) ≡ fitOver (deskText (now (input .entry))) (now (text .entry)) ⌝ }
-    ensures { λ r. ⌜ r ≤ 8192 ⌝ }
+    ensures { λ r. ⌜ r ≤ textBytes ⌝ }
 {
     if MAX_BYTES < input.len() {
         return put_word(text, 0, b"too long\n");
