@@ -1,4 +1,4 @@
-//! The independent implementation, written from document 01 and the readings of docs/DECISIONS.md only.
+//! The independent implementation, written after document 01 and docs/DECISIONS.md, without the code of the crates.
 //!
 //! What the tables, the plan buffer and `answer` hold after the planning:
 //! - 1 to 11: all as before, but `answer` has the place;

@@ -2,6 +2,7 @@
 use crate::column::put_column;
 use crate::column::settle;
 use crate::column::take_column;
+use order::POSITIONS;
 use subset::Subset;
 ghost use mathlib.Core.Path.{_≡_};
 ghost use Prim.Native.Nat.{_*_, _<_, _≤_};
@@ -12,9 +13,6 @@ ghost use Rattle.search.specs.Ranges.{OneSize};
 ghost use Rattle.search.specs.InOrder.{OrderTable, SizeEnd};
 ghost use Rattle.search.specs.Column.{ArcTables, AllLow};
 ghost use Rattle.search.specs.ClosedCells.{SetClosed, SetsClosed};
-
-// How many positions the order has.
-pub const POSITIONS: usize = limits::MAX_SUBSETS as usize;
 
 // The set at a position of the order, from the table of all of them.
 fn set_at(sets: &[u16], position: usize) -> Subset

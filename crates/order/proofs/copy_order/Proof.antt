@@ -1,5 +1,5 @@
--- `copy_order` meets its contract. The loop's invariant: the subsets at the positions so far are written. The table of the source is the order, as in
--- the proof of `at`.
+-- `copy_order` meets its contract. The loop's invariant: the subsets at the positions so far are written. The table of the source is the order, which
+-- is computed here once.
 -- Assumes nothing.
 use Prim.Native.Nat.{ℕ, _-_, _≤_}
 use mathlib.Core.Path.{_≡_, ap, _∙_}
