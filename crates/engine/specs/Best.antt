@@ -17,7 +17,7 @@ use Rattle.limits.specs.Limits.{maxNodes, maxArcs, noCost}
 use Rattle.limits.specs.Refusals.{noPlan, shortBuffer}
 use Rattle.lists.specs.Every.{every-imp}
 use Rattle.lists.specs.Find.{all-at, all-of}
-use Rattle.lists.specs.Over.{over, length-over, getD-over}
+use Rattle.lists.specs.Over.{over, length-over}
 use Rattle.lists.specs.Tests.{by-test, true-fact, fact-true, eq-fact}
 use Rattle.subset.specs.Sets.{full}
 use Rattle.subset.specs.Parts.{full-ne}
@@ -28,7 +28,8 @@ use Rattle.graph.specs.LeastTotals.{leastCell, IsCostTable, Room}
 use Rattle.graph.specs.Layout.{rootOf, layout}
 use Rattle.graph.specs.Theorems.{layout-is-least, root-rule, same-root, same-layout}
 use Rattle.table.specs.Cells.{cellIn, costTable}
-use Rattle.table.specs.Rows.{length-cells, cell-of}
+use Rattle.table.specs.Cheapest.{LowestTo}
+use Rattle.table.specs.Rows.{length-table, table-over}
 use Rattle.loader.specs.Tables.{Tables}
 use Rattle.planfile.specs.Format.{fileBytes, fileSize}
 use Rattle.planfile.specs.FormatLaws.{Fits, fits-encoding, length-file}
@@ -36,7 +37,7 @@ use Rattle.planfile.specs.Writing.{Writing, writing, writtenOver, writingOf}
 use Rattle.planfile.specs.declared.write.Written.{Written}
 use Rattle.planfile.specs.declared.write.Written.the-variants.{File, ShortBuffer, NoFile}
 use Rattle.layout.specs.Plan.{laid, Ready}
-use Rattle.layout.specs.Root.{fullCellIn, LowestTo}
+use Rattle.layout.specs.Root.{fullCellIn}
 use Rattle.layout.specs.Roots.{lowest-root}
 use Rattle.search.specs.Whole.{Searchable}
 use Rattle.mission.specs.Runs.{engineTables, run}
@@ -253,12 +254,9 @@ search-finishes {n} {k} {m} {starts} {ends} {weights} {landings} {cells} {marks}
     table : List ℕ
     table = costTable (graphIn n k m starts ends weights landings) noCost
 
-    so-many : length (costTable (graphIn n k m starts ends weights landings) noCost) ≡ n * 2 ^ k
-    so-many = length-cells n (2 ^ k) (leastCell (graphIn n k m starts ends weights landings) noCost)
+    so-many : length table ≡ n * 2 ^ k
+    so-many = length-table (graphIn n k m starts ends weights landings) noCost
 
     held : IsCostTable (graphIn n k m starts ends weights landings) (cellIn after (2 ^ k)) noCost
     held v w on small =
-        let l = digits-lt on small in
-        ap (λ (x : List ℕ). cellIn x (2 ^ k) v w) e
-        ∙ getD-over (costTable (graphIn n k m starts ends weights landings) noCost) cells (v * 2 ^ k + w) 0 (omega (arith, so-many))
-        ∙ cell-of n (2 ^ k) (leastCell (graphIn n k m starts ends weights landings) noCost) v w on small
+        ap (λ (x : List ℕ). cellIn x (2 ^ k) v w) e ∙ table-over (graphIn n k m starts ends weights landings) noCost cells v w on small

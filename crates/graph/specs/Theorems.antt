@@ -3,7 +3,7 @@
 -- Assumes nothing.
 use Prim.Native.Nat.{ℕ, suc, _+_, _-_, _*_, _^_, _≤_, _<_}
 use mathlib.Core.Path.{_≡_, refl, sym, subst}
-use mathlib.Core.Logic.{_≢_, _↔_}
+use mathlib.Core.Logic.{_≢_, _⊎_, _↔_}
 use mathlib.Core.Bool.{not}
 use mathlib.Core.Option.{none, some}
 use mathlib.Core.List.{List, [], _∷_, _++_}
@@ -23,7 +23,7 @@ use Rattle.subset.specs.Sequences.{earlier-part}
 use Rattle.graph.specs.Graph.{Graph, Sound, Landing}
 use Rattle.graph.specs.Paths.{DirectedPath, Reaches, ReachesAll, reachedIn, isReached, reachedNodes, Touched, OnePath}
 use Rattle.graph.specs.Subtrees.{Subtree, held, Covers, CoversAll, total, isTree, isSubtree, isCovering}
-use Rattle.graph.specs.LeastTotals.{leastTotal, leastCell, IsLeastTotal, IsCostTable, Room}
+use Rattle.graph.specs.LeastTotals.{leastTotal, leastCell, NoSubtree, Least, IsLeastTotal, IsCostTable, Room}
 use Rattle.graph.specs.Growth.{firstExtending, keptThen, growIn, grow, kept}
 use Rattle.graph.specs.Tables.{Closed, Support, Supported, Capped, StartedSet, ClosedSet, put}
 use Rattle.graph.specs.Layout.{isDone, fits, splits, followIn, layoutIn, layout, rootOf, LowestCheapest}
@@ -37,7 +37,7 @@ use Rattle.graph.specs.laws.SubtreeTest.{tree-subtree, subtree-tree, tes
 use Rattle.graph.specs.laws.ReachedCount.{subtree-count, count-subtree}
 use Rattle.graph.specs.laws.LowerBound.{subtree-lower}
 use Rattle.graph.specs.laws.UpperBound.{attain}
-use Rattle.graph.specs.laws.LeastMeaning.{least-total, least-bound, room-charge}
+use Rattle.graph.specs.laws.LeastMeaning.{least-total, uncharged-right, least-bound, room-charge}
 use Rattle.graph.specs.laws.CostTable.{both-cost-table, cost-table-capped, cost-table-closed, cost-table-supported}
 use Rattle.graph.specs.laws.LayoutRule.{arc-falls, follow-enough, layout-enough, layout-nothing, layout-arc, layout-split}
 use Rattle.graph.specs.laws.LayoutTotal.{layout-subtree, step-passes, arc-found, part-found, split-measure}
@@ -111,6 +111,11 @@ module _ (G : Graph) (sound : Sound G) (c : ℕ → ℕ → ℕ) (top v w : ℕ)
 -- "the least total of a directed subtree with root v that holds a landing of each station in W, or .. where none exists"
 pub least-total-is-least : (G : Graph) (v w : ℕ) → IsLeastTotal G v w (leastTotal G v w)
 least-total-is-least = least-total
+
+-- so each cell of a cost table is the least total, or `top` where there is none; the empty set's too, where no node is charged
+pub cell-is-least : (G : Graph) (top : ℕ) (c : ℕ → ℕ → ℕ) → IsCostTable G c top → ((v : ℕ) → G .charge v ≡ 0)
+    → (v w : ℕ) → v < G .nodes → w < 2 ^ G .terminals → Least G v w (c v w) ⊎ ((c v w ≡ top) × NoSubtree G v w)
+cell-is-least = uncharged-right
 
 -- "A finite cell is at most 1,000,000 times (n − 1)"; document 02, W-210: "The finite limit grows by 1,000,000 times n". No weight is above
 -- p, and no charge above q.

@@ -1,4 +1,6 @@
 -- what a reader must believe
 pub mod Cells
--- what follows of lists of cells
+pub mod Cheapest
+-- what follows of lists of cells, and of the search for the cheapest node
 pub mod Rows
+pub mod Lowest

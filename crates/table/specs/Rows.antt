@@ -1,6 +1,7 @@
--- Lists of cells, node by node: the places of the cells, how many there are, the cell of a node and a set, and that the cells give the list.
+-- Lists of cells, node by node: the places of the cells, how many there are, the cell of a node and a set, and that the cells give the list. A
+-- table that begins with a cost table has its cells.
 -- Assumes nothing.
-use Prim.Native.Nat.{ℕ, suc, _+_, _*_, _/_, _%_, _≤_, _<_}
+use Prim.Native.Nat.{ℕ, suc, _+_, _*_, _/_, _%_, _^_, _≤_, _<_}
 use mathlib.Core.Path.{_≡_, sym, ap, ap₂, _∙_}
 use mathlib.Core.List.{List, map}
 use native.Mathlib.Omega.{arith}
@@ -11,7 +12,10 @@ use lib.ListN.{length, getD, drop, List·getD-append}
 use lib.Seq.{ext-getD, getD-drop}
 use Rattle.lists.specs.Joined.{joined, length-joined, drop-joined}
 use Rattle.lists.specs.Numbers.{numbers, length-numbers, getD-number, length-values, getD-values}
-use Rattle.table.specs.Cells.{cellIn, cellsOf}
+use Rattle.lists.specs.Over.{over, getD-over}
+use Rattle.graph.specs.Graph.{Graph}
+use Rattle.graph.specs.LeastTotals.{leastCell, IsCostTable}
+use Rattle.table.specs.Cells.{cellIn, cellsOf, costTable}
 
 -- ---- places
 
@@ -59,3 +63,14 @@ module _ (n size : ℕ) (c : ℕ → ℕ → ℕ) where
       at i l =
           let (v, w, on, small, e) = place-of n size i l in
           ap (λ (x : ℕ). getD cells x 0) (sym e) ∙ each v w on small ∙ sym (cell-of v w on small) ∙ ap (λ (x : ℕ). getD (cellsOf n size c) x 0) e
+
+-- ---- a cost table in the first entries of another table
+
+module _ (G : Graph) (top : ℕ) where
+  pub length-table : length (costTable G top) ≡ G .nodes * 2 ^ G .terminals
+  length-table = length-cells (G .nodes) (2 ^ G .terminals) (leastCell G top)
+
+  pub table-over : (old : List ℕ) → IsCostTable G (cellIn (over (costTable G top) old) (2 ^ G .terminals)) top
+  table-over old v w on small =
+      getD-over (costTable G top) old (v * 2 ^ G .terminals + w) 0 (omega (arith, length-table, digits-lt on small))
+      ∙ cell-of (G .nodes) (2 ^ G .terminals) (leastCell G top) v w on small

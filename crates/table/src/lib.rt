@@ -1,4 +1,6 @@
 // The cost table (document 01, "The cost table"): one cell for each site and each set of stations, at place v times 2^k + W.
+pub mod cheapest;
+
 use subset::Subset;
 ghost use mathlib.Core.Path.{_≡_};
 ghost use Prim.Native.Nat.{_+_, _*_, _^_, _≤_, _<_};

@@ -7,6 +7,7 @@ use mathlib.Core.Logic.{_≢_, _⊎_, inl, inr}
 use mathlib.Core.Bool.{Bool, _&&_, cond}
 use mathlib.Core.Option.{Option, none, some, Option·getD}
 use mathlib.Core.List.{List, [], map, List·Memᴰ}
+use native.Mathlib.Decide.{ℕ-discrete}
 use native.Mathlib.Omega.{arith}
 use lib.Dec.{T}
 use lib.Pow.{pow-pos}
@@ -17,6 +18,7 @@ use Rattle.lists.specs.Rising.{rising, rising-same}
 use Rattle.lists.specs.Members.{member-select, select-member, value-listed, listed-member, select-sublist}
 use Rattle.lists.specs.Sublists.{sublists}
 use Rattle.lists.specs.Sums.{Same, same-listed}
+use Rattle.subset.specs.Terminals.{has-empty}
 use Rattle.graph.specs.Graph.{Graph, Sound, allArcs}
 use Rattle.graph.specs.Subtrees.{Subtree, Covers, total, isSubtree, isCovering}
 use Rattle.graph.specs.LeastTotals.{subtreesFor, leastTotal, leastCell, NoSubtree, Least, IsLeastTotal, IsCostTable, Room}
@@ -101,6 +103,27 @@ table-right G top c table v w on ne small = subst (Right G top v w) (sym (table 
 
 pub table-empty : (G : Graph) (top : ℕ) (c : ℕ → ℕ → ℕ) → IsCostTable G c top → (v : ℕ) → v < G .nodes → c v 0 ≡ 0
 table-empty G top c table v on = table v 0 on (pow-pos (G .terminals))
+
+-- where no node is charged, the root alone is a least subtree for the empty set
+pub empty-least : (G : Graph) (v : ℕ) → v < G .nodes → G .charge v ≡ 0 → Least G v 0 0
+empty-least G v on free = record {
+  tree = [];
+  subtree = root-subtree G v on;
+  covers = λ i _ t. absurd (subst T (has-empty i) t);
+  attained = omega (arith, free);
+  least = λ L _ _. omega arith;
+}
+
+-- so that there every cell of the cost table is right
+pub uncharged-right : (G : Graph) (top : ℕ) (c : ℕ → ℕ → ℕ) → IsCostTable G c top → ((v : ℕ) → G .charge v ≡ 0)
+    → (v w : ℕ) → v < G .nodes → w < 2 ^ G .terminals → Right G top v w (c v w)
+uncharged-right G top c table free v w on small = by-empty (ℕ-discrete w 0)
+  where
+    by-empty : Dec (w ≡ 0) → Right G top v w (c v w)
+    by-empty (yes e) =
+        subst (λ (x : ℕ). Right G top v x (c v x)) (sym e)
+        (subst (Right G top v 0) (sym (table-empty G top c table v on)) (inl (empty-least G v on (free v))))
+    by-empty (no ne) = table-right G top c table v w on ne small
 
 pub right-table : (G : Graph) (top : ℕ) (c : ℕ → ℕ → ℕ) → ((v : ℕ) → v < G .nodes → c v 0 ≡ 0)
     → ((v w : ℕ) → v < G .nodes → w ≢ 0 → w < 2 ^ G .terminals → Right G top v w (c v w)) → IsCostTable G c top

@@ -5,39 +5,28 @@ use Prim.Native.Nat.{ℕ, _*_}
 use mathlib.Core.Path.{ap}
 use native.Mathlib.Omega.{arith}
 use denote.Ref.{now}
-use borrow.Author.Needs.{needs}
 use Rattle.table.specs.Cells.{cellIn}
 use Rattle.table.proofs.cell.Statement.{statement}
 use Rattle.table.proofs.cell.Tie as tie
-use Rattle.table.proofs.cell.Reads as reads
-use Rattle.table.proofs.cell.Lts as lts
-use Rattle.table.proofs.sets_of.Reads as sets-of-reads
 
--- src/lib.rt:22:26
 sets-of-requires : tie.Need-sets-of-requires
 sets-of-requires c κs = search needs
 
--- src/lib.rt:22:11
 mul-result : tie.Need-mul-result
 mul-result c = omega (arith, ap (λ (x : ℕ). c .before .before .args .v * x) (c .sets-of .ensures), c .before .before .pre .1)
 
--- src/lib.rt:22:40
 cast-result : tie.Need-cast-result
 cast-result c = search needs
 
--- src/lib.rt:22:11
 add-result : tie.Need-add-result
 add-result c = omega (arith, ap (λ (x : ℕ). c .before .before .before .args .v * x) (c .before .sets-of .ensures), c .before .before .before .pre .1)
 
--- src/lib.rt:22:5
 mul-result-2 : tie.Need-mul-result-2
 mul-result-2 c = omega (arith, ap (λ (x : ℕ). c .before .before .before .args .v * x) (c .before .sets-of .ensures), c .before .before .before .pre .1)
 
--- src/lib.rt:22:5
 shared-slice-read-result : tie.Need-shared-slice-read-result
 shared-slice-read-result c = omega (arith, ap (λ (x : ℕ). c .before .before .before .before .args .v * x) (c .before .before .sets-of .ensures), c .before .before .before .before .pre .1)
 
--- src/lib.rt:18:1
 returns : tie.Need-returns
 returns c = ap (λ (x : ℕ). cellIn (now (c .before .before .before .before .args .cells)) x (c .before .before .before .before .args .v) (c .before .before .before .before .args .w .0)) (c .before .before .sets-of .ensures)
 

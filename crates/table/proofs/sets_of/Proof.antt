@@ -5,17 +5,12 @@ use mathlib.Core.Path.{_∙_}
 use native.Mathlib.Nat.{one-mul}
 use native.Mathlib.Omega.{arith}
 use lib.Pow.{shl-exact}
-use borrow.Author.Needs.{needs}
 use Rattle.table.proofs.sets_of.Statement.{statement}
 use Rattle.table.proofs.sets_of.Tie as tie
-use Rattle.table.proofs.sets_of.Reads as reads
-use Rattle.table.proofs.sets_of.Lts as lts
 
--- src/lib.rt:30:5
 shl-result : tie.Need-shl-result
 shl-result c = search needs
 
--- src/lib.rt:26:1
 returns : tie.Need-returns
 returns c = shl-exact {a = 1} 1 (c .args .k) 64 (omega arith) (omega arith) ∙ one-mul _
 
