@@ -1,0 +1,3 @@
+-- what the walks over the struct share
+pub mod Held
+pub mod Made
