@@ -1,0 +1,40 @@
+-- What the enquirer's answers mean over a finished cost table (document 01, "The cost table"): "Cell v times 2^k + W holds the least total of a
+-- directed subtree with root v that holds a landing of each station in W, or 4,294,967,295 where none exists ("none")"; the best sender is
+-- "a site whose cell is least and finite, or "none"". And after which answers of the engine the table is finished.
+-- Assumes nothing.
+use Prim.Native.Nat.{ℕ, _^_, _≤_, _<_}
+use mathlib.Core.Path.{_≡_}
+use mathlib.Core.Logic.{_⊎_}
+use mathlib.Core.List.{List}
+use Rattle.limits.specs.Limits.{noCost}
+use Rattle.limits.specs.Refusals.{noPlan, shortBuffer}
+use Rattle.answer.specs.Stated.{Stated, plan, cell, sender, noSender, refused}
+use Rattle.graph.specs.Graph.{Graph}
+use Rattle.graph.specs.Subtrees.{Subtree, Covers, total}
+use Rattle.graph.specs.LeastTotals.{NoSubtree, Least}
+use Rattle.enquirer.specs.Questions.{cellAnswer, SenderAnswer}
+
+-- the engine has planned the sheet, or answered 12 or 13: the cost table is finished
+abbrev pub Finished : Stated → Type 0
+Finished (plan root cost count) = Unit {0}
+Finished (refused family number place) = (number ≡ noPlan) ⊎ (number ≡ shortBuffer)
+Finished (cell cost) = ⊥
+Finished (sender node) = ⊥
+Finished noSender = ⊥
+
+-- the answer is the least total of v and w, which is no "none"; or it is "none", and there is no directed subtree with root v that holds a
+-- landing of each station of w
+pub data CellMeans (G : Graph) (v w : ℕ) : Stated → Type 0 where
+  least-total : (x : ℕ) → Least G v w x → x < noCost → CellMeans G v w (cell x)
+  no-total : NoSubtree G v w → CellMeans G v w (cell noCost)
+
+-- the answer is a site that attains the least total of all directed subtrees that hold a landing of each station of w, whatever their root; or
+-- it is "none", and there is no such subtree
+pub data SenderMeans (G : Graph) (w : ℕ) : Stated → Type 0 where
+  attains : (v x : ℕ) → Least G v w x → ((u : ℕ) (L : List ℕ) → Subtree G u L → Covers G u L w → x ≤ total G u L) → SenderMeans G w (sender v)
+  none-serves : ((u : ℕ) → NoSubtree G u w) → SenderMeans G w noSender
+
+-- whatever the enquirer answers over these cells, for n sites and k stations, means that, at every site and every subset
+pub record MeansLeast (n k : ℕ) (G : Graph) (cells : List ℕ) : Type 0 where
+  pub cell-means : (v w : ℕ) → v < n → w < 2 ^ k → (s : Stated) → s ≡ cellAnswer cells n k v w → CellMeans G v w s
+  pub sender-means : (w : ℕ) → w < 2 ^ k → (s : Stated) → SenderAnswer cells n k w s → SenderMeans G w s
