@@ -1,5 +1,5 @@
--- what a C function returns and leaves, and some calls computed
+-- what a C function returns and leaves of a run, and some calls computed
 pub mod Returned
 pub mod Worked
 -- a call, from the run behind it
-pub mod Given
+pub mod Called

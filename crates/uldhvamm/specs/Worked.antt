@@ -1,9 +1,9 @@
--- The number and the table `answer` of a plan or an acceptance, of refusals, of a sender and of no sender, with tables of several lengths.
+-- Calls that give a plan and refusals, with tables `answer` of several lengths.
 -- Assumes nothing.
 use Prim.Native.Nat.{ℕ}
 use mathlib.Core.Path.{_≡_, refl}
 use mathlib.Core.List.{[], _∷_}
-use Rattle.answer.specs.Stated.{plan, sender, noSender, refused, ofSheet, ofSearch}
+use Rattle.answer.specs.Stated.{plan, refused, ofSheet, ofSearch}
 use Rattle.mission.specs.Runs.{run}
 use Rattle.uldhvamm.specs.Returned.{call, callOf}
 
@@ -17,6 +17,4 @@ pub settled :
     × (callOf (run (plan 0 10 3) lent) [] ≡ call 0 [] lent)
     × (callOf (run (refused ofSheet 7 5) lent) (9 ∷ 9 ∷ []) ≡ call 7 (5 ∷ 9 ∷ []) lent)
     × (callOf (run (refused ofSearch 12 0) lent) [] ≡ call 12 [] lent)
-    × (callOf (run (sender 0) lent) (9 ∷ []) ≡ call 0 (0 ∷ []) lent)
-    × (callOf (run noSender lent) (9 ∷ 9 ∷ []) ≡ call 0 (18446744073709551615 ∷ 9 ∷ []) lent)
-settled = (refl, refl, refl, refl, refl, refl, refl)
+settled = (refl, refl, refl, refl, refl)

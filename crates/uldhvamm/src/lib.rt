@@ -1,15 +1,19 @@
-// The library for other languages: the entry points as C functions. A slice passes as a pointer and a length. Each function returns 0 for a plan
-// or an acceptance, else the number of the refusal, and writes what the answer states into `answer`, as far as it has entries.
-mod values;
-
-use crate::values::give;
+// The library for other languages: the entry points as C functions. A slice passes as a pointer and a length. Each function returns 0 for a plan,
+// an acceptance or an answer of the enquirer, else the number of the refusal, and writes what the answer states into `answer`, as far as it
+// has entries.
+use c_values::give;
+use c_values::give_enquiry;
 use engine::planning::plan_sheet;
+use enquirer::best_sender;
+use enquirer::cell;
 use plan_reader::read::read_plan;
 ghost use mathlib.Core.Path.{_≡_};
 ghost use Rattle.loader.specs.Tables.{tables};
 ghost use Rattle.mission.specs.Runs.{engineTables, readerTables};
 ghost use Rattle.engine.specs.Engine.{planningOf};
+ghost use Rattle.enquirer.specs.Questions.{cellAnswer, SenderAnswer};
 ghost use Rattle.plan_reader.specs.Reader.{readingOf};
+ghost use Rattle.c_values.specs.Values.{Gives, GivesOne};
 ghost use Rattle.uldhvamm.specs.Returned.{call, callOf};
 
 // The engine.
@@ -57,4 +61,35 @@ pub extern "C" fn uldhvamm_read_plan(
 {
     let sent = read_plan(sheet, file, starts, ends, prices, landings, marks);
     give(sent, answer)
+}
+
+// The enquirer: the cell for a site and a subset.
+#[no_mangle]
+pub extern "C" fn uldhvamm_cell(
+    cells: &[u32],
+    sites: u32,
+    stations: u32,
+    site: u32,
+    subset: u32,
+    answer: &mut [u64],
+) -> u32
+    ensures { λ r. ⌜ Gives (cellAnswer (now (cells .entry)) sites stations site subset) r (now (answer .entry)) (now (answer .exit)) ⌝ }
+{
+    let sent = cell(cells, sites, stations, site, subset);
+    give_enquiry(sent, answer)
+}
+
+// The enquirer: the best sender of a subset.
+#[no_mangle]
+pub extern "C" fn uldhvamm_best_sender(
+    cells: &[u32],
+    sites: u32,
+    stations: u32,
+    subset: u32,
+    answer: &mut [u64],
+) -> u32
+    ensures { λ r. ⌜ GivesOne (SenderAnswer (now (cells .entry)) sites stations subset) r (now (answer .entry)) (now (answer .exit)) ⌝ }
+{
+    let sent = best_sender(cells, sites, stations, subset);
+    give_enquiry(sent, answer)
 }

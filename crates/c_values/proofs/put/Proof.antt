@@ -1,8 +1,8 @@
--- `uldhvamm::values::put` meets its contract: past the end nothing is written.
+-- `c_values::put` meets its contract: past the end nothing is written.
 -- Assumes nothing.
 use borrow.Author.Needs.{needs}
-use Rattle.uldhvamm.proofs.values.put.Statement.{statement}
-use Rattle.uldhvamm.proofs.values.put.Tie as tie
+use Rattle.c_values.proofs.put.Statement.{statement}
+use Rattle.c_values.proofs.put.Tie as tie
 use lib.Seq.{set-out}
 use mathlib.Core.Path.{sym}
 

@@ -1,11 +1,11 @@
--- `uldhvamm::values::give` meets its contract: a plan's three values, or a refusal's place.
+-- `c_values::give` meets its contract: a plan's three values, or a refusal.
 -- Assumes nothing.
 use borrow.Author.Needs.{needs}
-use Rattle.uldhvamm.proofs.values.give.Statement.{statement}
-use Rattle.uldhvamm.proofs.values.give.Tie as tie
-use mathlib.Core.Path.{sym, ap, _∙_}
+use mathlib.Core.Path.{sym, ap}
 use Rattle.answer.specs.Stated.{stated}
-use Rattle.uldhvamm.specs.Given.{gives-plan, gives-refusal}
+use Rattle.c_values.specs.Giving.{gives-plan, gives-same}
+use Rattle.c_values.proofs.give.Statement.{statement}
+use Rattle.c_values.proofs.give.Tie as tie
 
 enum-known-sent : tie.Need-enum-known-sent
 enum-known-sent c = search needs
@@ -28,14 +28,8 @@ put-requires-3 c κs = search needs
 enum-known-sent-2 : tie.Need-enum-known-sent-2
 enum-known-sent-2 c = search needs
 
-code-of-requires : tie.Need-code-of-requires
-code-of-requires c κs = search needs
-
-put-requires-4 : tie.Need-put-requires-4
-put-requires-4 c κs = search needs
-
-cast-result : tie.Need-cast-result
-cast-result c = search needs
+give-refusal-requires : tie.Need-give-refusal-requires
+give-refusal-requires c κs = search needs
 
 same-length : tie.Need-same-length
 same-length c = search needs
@@ -47,7 +41,7 @@ same-length-2 : tie.Need-same-length-2
 same-length-2 c = search needs
 
 returns-2 : tie.Need-returns-2
-returns-2 c = gives-refusal (c .before .before .before .before .before .code-of .ensures ∙ ap stated (sym (c .before .before .before .before .before .before .before .sent2 .given .1))) (c .before .before .before .put4 .ensures)
+returns-2 c = gives-same (ap stated (sym (c .before .before .before .before .before .sent2 .given .1))) (c .before .before .give-refusal .ensures)
 
 pub give-spec : {M : Type 1} → statement M
 give-spec =
@@ -60,9 +54,7 @@ give-spec =
     cast-put-2
     put-requires-3
     enum-known-sent-2
-    code-of-requires
-    put-requires-4
-    cast-result
+    give-refusal-requires
     same-length
     returns
     same-length-2

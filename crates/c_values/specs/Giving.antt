@@ -1,19 +1,13 @@
--- Writing values one after the other, each where the table has an entry for it, fills the table; and a call of a run.
+-- Writing values one after the other, each where the table has an entry for it, gives the answer.
 -- Assumes nothing.
 use Prim.Native.Nat.{ℕ}
-use mathlib.Core.Path.{_≡_, refl, ap, _∙_, subst}
+use mathlib.Core.Path.{_≡_, refl, sym, ap, _∙_, subst}
 use mathlib.Core.List.{List, [], _∷_}
 use lib.ListN.{set}
 use Rattle.lists.specs.Over.{fitOver}
 use Rattle.lists.specs.Stores.{sets-fit}
 use Rattle.answer.specs.Stated.{Stated, Family, plan, refused}
-use Rattle.mission.specs.Runs.{Run, run}
-use Rattle.uldhvamm.specs.Returned.{numberOf, valuesOf, call, callOf}
-
--- the number, and the table with the values, of what is stated
-pub record Gives (s : Stated) (number : ℕ) (entries after : List ℕ) : Type 0 where
-  pub returned : number ≡ numberOf s
-  pub values : after ≡ fitOver (valuesOf s) entries
+use Rattle.c_values.specs.Values.{numberOf, valuesOf, Gives}
 
 -- a plan: 0, and three values
 pub gives-plan : {s : Stated} {root cost count : ℕ} {entries first second third : List ℕ} → plan root cost count ≡ s
@@ -28,16 +22,19 @@ gives-plan {s} {root} {cost} {count} {entries} {first} {second} {third} e p q r 
           ∙ sets-fit (root ∷ cost ∷ count ∷ []) entries;
     })
 
+-- one value, with the number: a cell, a sender, no sender, or the place of a refusal
+pub gives-value : {s : Stated} {number value : ℕ} {entries after : List ℕ} (t : Stated) → t ≡ s → number ≡ numberOf t → valuesOf t ≡ value ∷ []
+    → after ≡ set entries 0 value → Gives s number entries after
+gives-value {s} {number} {value} {entries} {after} t e is one p =
+    subst (λ (x : Stated). Gives x number entries after) e
+    (record { returned = is; values = p ∙ sets-fit (value ∷ []) entries ∙ ap (λ (l : List ℕ). fitOver l entries) (sym one) })
+
 -- a refusal: its number, and its place
 pub gives-refusal : {s : Stated} {family : Family} {number place : ℕ} {entries after : List ℕ} → refused family number place ≡ s
     → after ≡ set entries 0 place → Gives s number entries after
 gives-refusal {s} {family} {number} {place} {entries} {after} e p =
-    subst (λ (x : Stated). Gives x number entries after) e (record { returned = refl; values = p ∙ sets-fit (place ∷ []) entries })
+    gives-value (refused family number place) e refl refl p
 
--- a call, from the run behind it
-pub called : {Lent : Type 0} {s : Stated} {t : Lent} {R : Run Lent} {number : ℕ} {entries after : List ℕ}
-    → run s t ≡ R → Gives s number entries after → call number after t ≡ callOf R entries
-called {Lent} {s} {t} {R} {number} {entries} {after} e g =
-    ap (λ (x : ℕ). call x after t) (g .returned)
-    ∙ ap (λ (l : List ℕ). call (numberOf s) l t) (g .values)
-    ∙ ap (λ (r : Run Lent). callOf r entries) e
+-- an answer that is passed on
+pub gives-same : {s t : Stated} {number : ℕ} {entries after : List ℕ} → s ≡ t → Gives s number entries after → Gives t number entries after
+gives-same {s} {t} {number} {entries} {after} e g = subst (λ (x : Stated). Gives x number entries after) e g
