@@ -36,9 +36,10 @@ use Rattle.mission.specs.PointLaws.{refused-not-plan, same-plan}
 use Rattle.engine.specs.Engine.{Plan, planOf, searched, withFile, planningOf}
 use Rattle.engine.specs.Rules.{by-cases}
 use Rattle.engine.specs.Found.{PlanFound, sheet-found}
-use Rattle.desk.specs.Text.{refusalLine, firstLine, arcLine, refusalText, arcText, planText, deskArcs, deskNodes, deskCells, deskTree, deskFits, sheetText}
-use Rattle.desk.specs.Stored.{Stored, stored-then}
-use Rattle.desk.specs.Listed.{lineOf, ArcsHeld}
+use Rattle.desk_lines.specs.Lines.{refusalLine, firstLine, arcLine}
+use Rattle.desk.specs.Text.{refusalText, arcText, planText, deskArcs, deskNodes, deskCells, deskTree, deskFits, sheetText}
+use Rattle.desk_lines.specs.Stored.{Stored, stored-then}
+use Rattle.desk_lines.specs.Listed.{lineOf, ArcsHeld}
 
 -- ---- the text of an answer
 

@@ -4,7 +4,8 @@ use mathlib.Core.Path.{_≡_, refl}
 use Rattle.sheet.specs.Verdict.{verdict, readFor}
 use Rattle.sheet.specs.Worked.{sheetA, sheetB, sheetC, sheetD, sheetE, sheetF, sheetG, sheetH, sheetI, sheetJ}
 use Rattle.engine.specs.Engine.{planOf}
-use Rattle.desk.specs.Text.{ascii, decimal, sheetText, deskText}
+use Rattle.desk_lines.specs.Lines.{ascii, decimal}
+use Rattle.desk.specs.Text.{sheetText, deskText}
 
 pub texts-settled :
     (deskText sheetA
@@ -20,9 +21,3 @@ pub texts-settled :
     × (deskText sheetJ ≡ ascii "refused 9 at 12\n")
 unfolding decimal sheetText planOf verdict readFor
 texts-settled = (refl, refl, refl, refl, refl, refl, refl, refl, refl, refl)
-
-pub decimals-settled :
-    (decimal 0 ≡ ascii "0") × (decimal 9 ≡ ascii "9") × (decimal 10 ≡ ascii "10") × (decimal 1009 ≡ ascii "1009")
-    × (decimal 18446744073709551615 ≡ ascii "18446744073709551615")
-unfolding decimal
-decimals-settled = (refl, refl, refl, refl, refl)

@@ -1,5 +1,3 @@
 // The desk program (document 01, "The desk program and worked sheets") as a library: the text for every input, and the program over it.
-mod lines;
 pub mod program;
 pub mod text;
-mod words;

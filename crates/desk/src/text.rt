@@ -1,10 +1,10 @@
 // The text that the desk program writes for an input: the sheet is planned with the desk's tables, and the answer is written as text.
-use crate::lines::put_arcs;
-use crate::lines::put_first;
-use crate::lines::put_refusal;
-use crate::words::put_word;
 use answer::Answer;
 use answer::code_of;
+use desk_lines::lines::put_arcs;
+use desk_lines::lines::put_first;
+use desk_lines::lines::put_refusal;
+use desk_lines::words::put_word;
 use engine::planning::plan_sheet;
 ghost use mathlib.Core.Path.{_≡_};
 ghost use Prim.Native.Nat.{_≤_};
@@ -12,7 +12,7 @@ ghost use lib.ListN.{length};
 ghost use Rattle.lists.specs.Over.{fitOver};
 ghost use Rattle.answer.specs.Stated.{stated};
 ghost use Rattle.desk.specs.Text.{textBytes, deskText, sheetText};
-ghost use Rattle.desk.specs.Stored.{Stored};
+ghost use Rattle.desk_lines.specs.Stored.{Stored};
 ghost use Rattle.desk.specs.Answered.{answerText, Listable};
 
 // The longest input that is read as a sheet; the legs, sites and cells that there is room for; the plan file of a tree of so many sites; and a

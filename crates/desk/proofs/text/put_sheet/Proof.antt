@@ -3,7 +3,7 @@
 use native.Mathlib.Omega.{arith}
 use denote.Ref.{now}
 use Rattle.sheet.specs.FieldLaws.{known-bytes}
-use Rattle.desk.specs.Stored.{stored-same}
+use Rattle.desk_lines.specs.Stored.{stored-same}
 use Rattle.desk.specs.Answered.{zeros, zeros-desk, answered}
 use borrow.Author.Needs.{needs}
 use Rattle.desk.proofs.text.put_sheet.Statement.{statement}

@@ -1,10 +1,10 @@
--- `desk::words::put_field` meets its contract.
+-- `desk_lines::words::put_field` meets its contract.
 -- Assumes nothing.
 use native.Mathlib.Omega.{arith}
-use Rattle.desk.specs.Stored.{stored-then}
+use Rattle.desk_lines.specs.Stored.{stored-then}
 use borrow.Author.Needs.{needs}
-use Rattle.desk.proofs.words.put_field.Statement.{statement}
-use Rattle.desk.proofs.words.put_field.Tie as tie
+use Rattle.desk_lines.proofs.words.put_field.Statement.{statement}
+use Rattle.desk_lines.proofs.words.put_field.Tie as tie
 
 put-word-requires : tie.Need-put-word-requires
 put-word-requires c κs = search needs

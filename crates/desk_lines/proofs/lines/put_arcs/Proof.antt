@@ -1,4 +1,4 @@
--- `desk::lines::put_arcs` meets its contract. The loop's invariant: the lines of the first i legs are stored. The measure is the number of legs left.
+-- `desk_lines::lines::put_arcs` meets its contract. The loop's invariant: the lines of the first i legs are stored. The measure is the number of legs left.
 -- Assumes nothing.
 use Prim.Native.Nat.{ℕ, _+_, _-_, _*_, _≤_}
 use mathlib.Core.Path.{_≡_, refl, ap}
@@ -7,11 +7,11 @@ use lib.ListN.{length}
 use denote.Ref.{now}
 use Rattle.lists.specs.Joined.{joined}
 use Rattle.planfile.specs.Format.{arcsTo}
-use Rattle.desk.specs.Stored.{Stored, stored-none, stored-same, stored-then}
-use Rattle.desk.specs.Listed.{lineOf, lines-more}
+use Rattle.desk_lines.specs.Stored.{Stored, stored-none, stored-same, stored-then}
+use Rattle.desk_lines.specs.Listed.{lineOf, lines-more}
 use borrow.Author.Needs.{needs}
-use Rattle.desk.proofs.lines.put_arcs.Statement.{statement}
-use Rattle.desk.proofs.lines.put_arcs.Tie as tie
+use Rattle.desk_lines.proofs.lines.put_arcs.Statement.{statement}
+use Rattle.desk_lines.proofs.lines.put_arcs.Tie as tie
 
 abbrev Inv-loop : tie.InvT-loop
 Inv-loop text₀ at file count starts ends weights arcs next₀ i₀ text next i = (i ≤ count) × (length text ≡ length text₀) × (next ≤ at + 102 * i) × Stored (joined (lineOf starts ends weights) (arcsTo file i)) at next text₀ text

@@ -11,7 +11,7 @@ use lib.Dec.{ltb}
 use borrow.Author.Tests.{lt-ltb, le-ltb, ltb-true, ltb-false}
 use Rattle.io.specs.Digits.{glyph, digits, Fewest}
 use Rattle.lists.specs.Tests.{by-test}
-use Rattle.desk.specs.Text.{digit, decimalIn, decimal}
+use Rattle.desk_lines.specs.Lines.{digit, decimalIn, decimal}
 
 -- one turn
 next : Bool → ℕ → ℕ → List ℕ

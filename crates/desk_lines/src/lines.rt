@@ -5,9 +5,9 @@ use planfile::fields::arc_at;
 ghost use Prim.Native.Nat.{_+_, _*_, _^_, _<_, _≤_};
 ghost use Rattle.lists.specs.Joined.{joined};
 ghost use Rattle.planfile.specs.Format.{arcsTo};
-ghost use Rattle.desk.specs.Text.{refusalLine, firstLine, arcLine};
-ghost use Rattle.desk.specs.Stored.{Stored};
-ghost use Rattle.desk.specs.Listed.{lineOf, ArcsHeld};
+ghost use Rattle.desk_lines.specs.Lines.{refusalLine, firstLine, arcLine};
+ghost use Rattle.desk_lines.specs.Stored.{Stored};
+ghost use Rattle.desk_lines.specs.Listed.{lineOf, ArcsHeld};
 
 // A refusal.
 pub fn put_refusal(text: &mut [u8], number: u64, place: u64) -> usize

@@ -4,8 +4,8 @@ ghost use mathlib.Core.Path.{_≡_};
 ghost use Prim.Native.Nat.{_+_, _^_, _<_, _≤_};
 ghost use lib.ListN.{length, set};
 ghost use mathlib.Core.List.{_++_};
-ghost use Rattle.desk.specs.Text.{decimal};
-ghost use Rattle.desk.specs.Stored.{Stored};
+ghost use Rattle.desk_lines.specs.Lines.{decimal};
+ghost use Rattle.desk_lines.specs.Stored.{Stored};
 
 // One byte.
 fn put(text: &mut [u8], at: usize, byte: u8)

@@ -1,13 +1,13 @@
--- `desk::words::put_number` meets its contract: the digits that the library writes are those of the number.
+-- `desk_lines::words::put_number` meets its contract: the digits that the library writes are those of the number.
 -- Assumes nothing.
 use Prim.Native.Nat.{_≤_}
 use mathlib.Core.Path.{_∙_}
 use native.Mathlib.Omega.{arith}
-use Rattle.desk.specs.Decimal.{digits-decimal, few-digits}
-use Rattle.desk.specs.Stored.{stored-same}
+use Rattle.desk_lines.specs.Decimal.{digits-decimal, few-digits}
+use Rattle.desk_lines.specs.Stored.{stored-same}
 use borrow.Author.Needs.{needs}
-use Rattle.desk.proofs.words.put_number.Statement.{statement}
-use Rattle.desk.proofs.words.put_number.Tie as tie
+use Rattle.desk_lines.proofs.words.put_number.Statement.{statement}
+use Rattle.desk_lines.proofs.words.put_number.Tie as tie
 
 decimal-requires : tie.Need-decimal-requires
 decimal-requires c κs = search needs

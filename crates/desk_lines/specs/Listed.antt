@@ -9,7 +9,7 @@ use lib.ListN.{length, getD}
 use Rattle.lists.specs.Joined.{joined, joined-append}
 use Rattle.lists.specs.Numbers.{numbers, numbers-more}
 use Rattle.planfile.specs.Format.{fileSize, listedArc, arcsTo}
-use Rattle.desk.specs.Text.{arcLine}
+use Rattle.desk_lines.specs.Lines.{arcLine}
 
 -- the line of leg e, by the entries of the tables
 abbrev pub lineOf : (starts ends weights : List ℕ) → ℕ → List ℕ

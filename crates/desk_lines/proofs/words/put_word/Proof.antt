@@ -1,12 +1,12 @@
--- `desk::words::put_word` meets its contract. The loop's invariant: the first i bytes of the word are stored. The measure is the number of bytes left.
+-- `desk_lines::words::put_word` meets its contract. The loop's invariant: the first i bytes of the word are stored. The measure is the number of bytes left.
 -- Assumes nothing.
 use Prim.Native.Nat.{_+_, _-_, _≤_}
 use mathlib.Core.Path.{_≡_, refl}
 use lib.ListN.{length, take}
-use Rattle.desk.specs.Stored.{Stored, stored-byte, stored-word}
+use Rattle.desk_lines.specs.Stored.{Stored, stored-byte, stored-word}
 use borrow.Author.Needs.{needs}
-use Rattle.desk.proofs.words.put_word.Statement.{statement}
-use Rattle.desk.proofs.words.put_word.Tie as tie
+use Rattle.desk_lines.proofs.words.put_word.Statement.{statement}
+use Rattle.desk_lines.proofs.words.put_word.Tie as tie
 
 abbrev Inv-loop : tie.InvT-loop
 Inv-loop text₀ at word i₀ text i = (i ≤ length word) × (length text ≡ length text₀) × Stored (take i word) at (at + i) text₀ text

@@ -1,10 +1,10 @@
--- `desk::words::put` meets its contract: past the end nothing is stored.
+-- `desk_lines::words::put` meets its contract: past the end nothing is stored.
 -- Assumes nothing.
 use mathlib.Core.Path.{sym}
 use lib.Seq.{set-out}
 use borrow.Author.Needs.{needs}
-use Rattle.desk.proofs.words.put.Statement.{statement}
-use Rattle.desk.proofs.words.put.Tie as tie
+use Rattle.desk_lines.proofs.words.put.Statement.{statement}
+use Rattle.desk_lines.proofs.words.put.Tie as tie
 
 slice-write-text : tie.Need-slice-write-text
 slice-write-text c = search needs
