@@ -1,5 +1,5 @@
 /*
- * Uldhvamm, a planner of radio relays: the planning and the plan reader as C functions.
+ * Uldhvamm, a planner of radio relays: the planning, the plan reader and the enquirer as C functions.
  *
  * Link with libuldhvamm.a, which `rt staticlib uldhvamm` writes to target/staticlib. It needs no runtime; of the C library it calls only
  * memset.
@@ -8,13 +8,15 @@
  *   A table or a byte string passes as a pointer and the number of its entries. C asks of the pointers what it asks everywhere: each
  *   points to that many entries, aligned for their type and, where the pointer is not const, writable; what is written overlaps
  *   nothing else that is passed. Where the number of entries is 0 the pointer may be any, also NULL. Nothing else is asked: every byte
- *   string is answered, and the tables and the buffer may hold anything and have any length.
+ *   string and every number is answered, and the tables and the buffer may hold anything and have any length.
  *
  * What is returned
- *   0 for a plan or an accepted plan file; else the number of the refusal, ULDHVAMM_SHORT_SHEET to ULDHVAMM_FALSE_TOTAL below.
+ *   0 for a plan, an accepted plan file, a cell, a best sender and ULDHVAMM_NO_SENDER; else the number of the refusal,
+ *   ULDHVAMM_SHORT_SHEET to ULDHVAMM_FALSE_TOTAL below.
  *
  * What is written to answer
- *   for a plan or an accepted plan file: root (the sending site), total (cents), number of legs; for a refusal: its place.
+ *   for a plan or an accepted plan file: root (the sending site), total (cents), number of legs; for a cell: the cell; for a best
+ *   sender: its site, or ULDHVAMM_NO_SENDER; for a refusal: its place.
  *   As many of these as answer has entries for are written, from its first entry on; its other entries are untouched.
  *
  * Stack
@@ -30,13 +32,17 @@
 extern "C" {
 #endif
 
-/* The limits of a sheet, and a cell for which there is no tree. */
+/* The limits of a sheet, a cell for which there is no tree ("none"), and the answer that no site is a best sender. */
 #define ULDHVAMM_MAX_SITES 1024
 #define ULDHVAMM_MAX_STATIONS 10
 #define ULDHVAMM_MAX_LEGS 8192
 #define ULDHVAMM_NO_COST UINT32_C(4294967295)
+#define ULDHVAMM_NO_SENDER UINT64_MAX
 
-/* The refusals. The place of 1 to 10 counts in the sheet, that of 15 and 16 in the plan file; that of the others is 0. */
+/*
+ * The refusals. The place of 1 to 10 counts in the sheet, that of 15 and 16 in the plan file; that of the others, and of all that the
+ * enquirer gives, is 0.
+ */
 enum {
     ULDHVAMM_SHORT_SHEET = 1,
     ULDHVAMM_STRANGE_MARK = 2,
@@ -96,6 +102,35 @@ uint32_t uldhvamm_read_plan(
     uint32_t *prices, size_t prices_length,
     uint16_t *landings, size_t landings_length,
     uint8_t *marks, size_t marks_length,
+    uint64_t *answer, size_t answer_length);
+
+/*
+ * The enquirer: two questions about a finished cost table of n = sites and k = stations, as uldhvamm_plan leaves it in cells after a
+ * plan, ULDHVAMM_NO_PLAN or ULDHVAMM_SHORT_BUFFER. A subset of the stations is a number below 2^k, in which station i is worth 2^i.
+ * Cell v times 2^k + W is the least total in cents of a directed tree with root v that holds a landing of each station in W, or
+ * ULDHVAMM_NO_COST where there is none. That it is so rests on the caller: every table is read as it stands.
+ *
+ * Refused are, in this order, each at place 0: ULDHVAMM_BAD_HEAD, where n is not 1 to ULDHVAMM_MAX_SITES or k is not 1 to
+ * ULDHVAMM_MAX_STATIONS; ULDHVAMM_SHORT_TABLES, where cells has fewer than n times 2^k entries (more are as good);
+ * ULDHVAMM_NO_SUCH_SITE, where a site is asked about that is n or more; ULDHVAMM_NO_SUCH_STATION, where the subset is 2^k or more.
+ * Nothing but answer is written.
+ */
+
+/* The cell of a site and a subset, as it stands in the table. ULDHVAMM_NO_COST is an answer too, and no refusal. */
+uint32_t uldhvamm_cell(
+    const uint32_t *cells, size_t cells_length,
+    uint32_t sites, uint32_t stations,
+    uint32_t site, uint32_t subset,
+    uint64_t *answer, size_t answer_length);
+
+/*
+ * The best sender of a subset: a site whose cell of that subset is least and is not ULDHVAMM_NO_COST, or ULDHVAMM_NO_SENDER where
+ * every cell of that subset is ULDHVAMM_NO_COST. Which of several equally cheap sites is given is left free.
+ */
+uint32_t uldhvamm_best_sender(
+    const uint32_t *cells, size_t cells_length,
+    uint32_t sites, uint32_t stations,
+    uint32_t subset,
     uint64_t *answer, size_t answer_length);
 
 #ifdef __cplusplus

@@ -1,5 +1,6 @@
 /*
- * The header as C: plans sheet A of document 01, reads the plan file back, changes its total, and plans an empty sheet.
+ * The header as C: plans sheet A of document 01, asks about its cost table and a smaller one, reads the plan file back, changes its
+ * total, and plans an empty sheet.
  * tests/outside compiles it, links it with libuldhvamm.a, and compares what it prints.
  */
 #include "uldhvamm.h"
@@ -20,6 +21,9 @@ static const uint8_t sheet[] = {
     'S', 'T', 2, 0, 0,
     'E', 'D'
 };
+
+/* The cost table of two sites and one station that no site can serve. */
+static const uint32_t unserved[] = {0, ULDHVAMM_NO_COST, 0, ULDHVAMM_NO_COST};
 
 static uint16_t starts[LEGS], ends[LEGS], landings[SITES];
 static uint32_t prices[LEGS], cells[SITES << STATIONS];
@@ -50,6 +54,48 @@ static void print_answer(const char *name, uint32_t number)
     }
 }
 
+/* Prints what the enquirer returned, and the answer; `none` is the answer that stands for "none". */
+static void print_enquiry(const char *name, uint32_t number, uint64_t none)
+{
+    if (number != 0) {
+        printf("%s: refused %u at %u\n", name, (unsigned)number, (unsigned)answer[0]);
+    } else if (answer[0] == none) {
+        printf("%s: none\n", name);
+    } else {
+        printf("%s: %u\n", name, (unsigned)answer[0]);
+    }
+}
+
+/* Asks for a cell of the first so many entries that the planning has left, and prints the answer. */
+static void ask_for_cell(const char *name, size_t length, uint32_t sites, uint32_t site, uint32_t subset)
+{
+    print_enquiry(name, uldhvamm_cell(cells, length, sites, STATIONS, site, subset, answer, 3), ULDHVAMM_NO_COST);
+}
+
+/* Asks for a best sender in the same way. */
+static void ask_for_sender(const char *name, size_t length, uint32_t stations, uint32_t subset)
+{
+    print_enquiry(name, uldhvamm_best_sender(cells, length, SITES, stations, subset, answer, 3), ULDHVAMM_NO_SENDER);
+}
+
+/* Asks about the table that the planning has left, and about the smaller one. Subset 3 is stations 0 and 1, subset 7 all three. */
+static void enquire(void)
+{
+    const size_t length = SITES << STATIONS;
+    ask_for_cell("cell of site 1, subset 3", length, SITES, 1, 3);
+    ask_for_cell("cell of site 1, subset 7", length, SITES, 1, 7);
+    ask_for_cell("cell, no sites", length, 0, 1, 3);
+    ask_for_cell("cell, table one entry short", length - 1, SITES, 1, 3);
+    ask_for_cell("cell of site 4", length, SITES, 4, 3);
+    ask_for_cell("cell of subset 8", length, SITES, 1, 8);
+    ask_for_sender("sender of subset 3", length, STATIONS, 3);
+    ask_for_sender("sender of subset 7", length, STATIONS, 7);
+    ask_for_sender("sender, 11 stations", length, 11, 3);
+    ask_for_sender("sender, table one entry short", length - 1, STATIONS, 3);
+    ask_for_sender("sender of subset 8", length, STATIONS, 8);
+    print_enquiry("sender of an unserved station", uldhvamm_best_sender(unserved, 4, 2, 1, 1, answer, 3), ULDHVAMM_NO_SENDER);
+}
+
 /* Prints the legs in the plan buffer. */
 static void print_legs(void)
 {
@@ -65,6 +111,7 @@ int main(void)
     print_answer("plan", plan_sheet(sizeof sheet));
     print_legs();
     printf("none: %s\n", cells[15] == ULDHVAMM_NO_COST ? "as named" : "another number");
+    enquire();
     print_answer("read", read_plan());
     plan[7] = 11;
     printf("false total: %s\n", read_plan() == ULDHVAMM_FALSE_TOTAL ? "as named" : "another number");

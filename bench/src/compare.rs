@@ -1,6 +1,9 @@
 //! Runs the library and the reference on equal copies of the same tables, and compares all that they leave.
+//!
+//! What the library answers to a question about a cost table is held to what is due by the reference.
 
-use crate::tables::{entry_difference, Tables};
+use crate::reference::Due;
+use crate::tables::{entry_difference, CostTable, Question, Tables};
 use crate::{library, reference};
 
 /// What a call returned and left.
@@ -67,6 +70,29 @@ pub fn both(call: &Call, sheet: &[u8], tables: &Tables, answer: &[u64]) -> Resul
             described(call, sheet)
         )),
     }
+}
+
+/// Asks the library, with a copy of `answer`. The number and the first entry are to be as due, the other entries as they were; else the
+/// error has the question and both in words.
+pub fn check_enquiry(
+    table: CostTable,
+    question: Question,
+    answer: &[u64],
+    due: &Due,
+) -> Result<(), String> {
+    let mut after = answer.to_vec();
+    let number = library::enquire(table, question, &mut after);
+    let first = after.first().is_none_or(|value| due.values.contains(value));
+    if number == due.number && first && after.iter().skip(1).eq(answer.iter().skip(1)) {
+        return Ok(());
+    }
+    Err(format!(
+        "{question:?}, {} sites, {} stations, {} cells {:?}\nreturned {number} with {after:?} for {answer:?}, due is {due:?}",
+        table.sites,
+        table.stations,
+        table.cells.len(),
+        &table.cells[..table.cells.len().min(64)],
+    ))
 }
 
 /// A call's sheet, and its file if it has one, in hexadecimal.

@@ -5,7 +5,7 @@
 
 #![allow(unsafe_code)]
 
-pub use crate::tables::{Answer, Lengths, Lent, Tables};
+pub use crate::tables::{Answer, CostTable, Enquiry, Lengths, Lent, Question, Tables};
 
 extern "C" {
     fn uldhvamm_plan(
@@ -44,6 +44,27 @@ extern "C" {
         landings_length: usize,
         marks: *mut u8,
         marks_length: usize,
+        answer: *mut u64,
+        answer_length: usize,
+    ) -> u32;
+
+    fn uldhvamm_cell(
+        cells: *const u32,
+        cells_length: usize,
+        sites: u32,
+        stations: u32,
+        site: u32,
+        subset: u32,
+        answer: *mut u64,
+        answer_length: usize,
+    ) -> u32;
+
+    fn uldhvamm_best_sender(
+        cells: *const u32,
+        cells_length: usize,
+        sites: u32,
+        stations: u32,
+        subset: u32,
         answer: *mut u64,
         answer_length: usize,
     ) -> u32;
@@ -111,6 +132,47 @@ pub fn read_plan_lent(sheet: &[u8], file: &[u8], lent: Lent, answer: &mut [u64])
     }
 }
 
+/// Asks for the cell of a site and a subset. Returns 0 for a cell, "none" too, else the number of the refusal.
+pub fn cell(table: CostTable, site: u32, subset: u32, answer: &mut [u64]) -> u32 {
+    // SAFETY: each pointer and length are those of one slice; the mutable slice overlaps nothing.
+    unsafe {
+        uldhvamm_cell(
+            table.cells.as_ptr(),
+            table.cells.len(),
+            table.sites,
+            table.stations,
+            site,
+            subset,
+            answer.as_mut_ptr(),
+            answer.len(),
+        )
+    }
+}
+
+/// Asks for the best sender of a subset. Returns 0 for a site and for `NO_SENDER`, else the number of the refusal.
+pub fn best_sender(table: CostTable, subset: u32, answer: &mut [u64]) -> u32 {
+    // SAFETY: each pointer and length are those of one slice; the mutable slice overlaps nothing.
+    unsafe {
+        uldhvamm_best_sender(
+            table.cells.as_ptr(),
+            table.cells.len(),
+            table.sites,
+            table.stations,
+            subset,
+            answer.as_mut_ptr(),
+            answer.len(),
+        )
+    }
+}
+
+/// `cell` or `best_sender`, as the question says.
+pub fn enquire(table: CostTable, question: Question, answer: &mut [u64]) -> u32 {
+    match question {
+        Question::Cell { site, subset } => cell(table, site, subset, answer),
+        Question::BestSender { subset } => best_sender(table, subset, answer),
+    }
+}
+
 /// Plans a sheet and decodes the answer.
 pub fn answer_to_sheet(sheet: &[u8], tables: &mut Tables) -> Answer {
     let mut answer = [0; 3];
@@ -123,4 +185,11 @@ pub fn answer_to_file(sheet: &[u8], file: &[u8], tables: &mut Tables) -> Answer 
     let mut answer = [0; 3];
     let number = read_plan(sheet, file, tables, &mut answer);
     Answer::decode(number, &answer)
+}
+
+/// Asks about a cost table and decodes the answer.
+pub fn answer_to_question(table: CostTable, question: Question) -> Enquiry {
+    let mut answer = [0];
+    let number = enquire(table, question, &mut answer);
+    Enquiry::decode(question, number, &answer)
 }

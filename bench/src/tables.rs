@@ -1,4 +1,4 @@
-//! The tables that a caller lends, their lengths, and the decoded answer.
+//! The tables that a caller lends, their lengths, the questions about a cost table, and the decoded answers.
 //!
 //! Both implementations take these; they hold data only.
 
@@ -148,6 +148,51 @@ impl Answer {
                 number,
                 place: answer[0],
             },
+        }
+    }
+}
+
+/// A cost table with its numbers of sites and stations beside it. It need not be a finished one.
+#[derive(Clone, Copy, Debug)]
+pub struct CostTable<'a> {
+    pub cells: &'a [u32],
+    pub sites: u32,
+    pub stations: u32,
+}
+
+/// A question to the enquirer. A subset is a number, in which station i is worth 2^i.
+#[derive(Clone, Copy, Debug, PartialEq, Eq)]
+pub enum Question {
+    /// The cell of a site and a subset.
+    Cell { site: u32, subset: u32 },
+    /// The best sender of a subset.
+    BestSender { subset: u32 },
+}
+
+/// What stands in `answer` where a subset has no best sender.
+pub const NO_SENDER: u64 = u64::MAX;
+
+/// An answer of the enquirer, decoded.
+#[derive(Clone, Copy, Debug, PartialEq, Eq)]
+pub enum Enquiry {
+    /// A cell as it stands in the table; 4,294,967,295 is "none".
+    Cell { cell: u64 },
+    /// A site whose cell is least and finite.
+    Sender { site: u64 },
+    /// No cell of the subset is finite.
+    NoSender,
+    /// A refusal of document 01's table.
+    Refused { number: u32, place: u64 },
+}
+
+impl Enquiry {
+    /// The answer to a question whose call returned `number` and left `answer`.
+    pub fn decode(question: Question, number: u32, answer: &[u64; 1]) -> Enquiry {
+        match (number, question, answer[0]) {
+            (0, Question::Cell { .. }, cell) => Enquiry::Cell { cell },
+            (0, Question::BestSender { .. }, NO_SENDER) => Enquiry::NoSender,
+            (0, Question::BestSender { .. }, site) => Enquiry::Sender { site },
+            (_, _, place) => Enquiry::Refused { number, place },
         }
     }
 }

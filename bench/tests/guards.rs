@@ -1,8 +1,10 @@
 //! The library writes nothing outside of the slices that it is lent: these are parts of larger tables, whose rest is looked at.
 
-use uldhvamm_bench::library::{plan_lent, read_plan_lent};
-use uldhvamm_bench::sheets::{small_sheet, PlanFile, Random, Sheet};
-use uldhvamm_bench::tables::{Lengths, Lent, Tables};
+use std::hint::black_box;
+use uldhvamm_bench::library::{enquire, plan_lent, read_plan_lent};
+use uldhvamm_bench::reference::due;
+use uldhvamm_bench::sheets::{question, random_table, small_sheet, PlanFile, Random, Sheet};
+use uldhvamm_bench::tables::{CostTable, Lengths, Lent, Tables};
 
 /// Entries of a table before and after the part that is lent.
 const GUARD: usize = 8;
@@ -88,5 +90,41 @@ fn nothing_outside_is_written() {
     assert!(
         plans > 500 && refusals > 500,
         "{plans} plans, {refusals} refusals"
+    );
+}
+
+/// The guards of the cells are 0, less than most cells: a best sender that is found outside is not the one that is due.
+#[test]
+fn the_enquirer_keeps_to_its_slices() {
+    let (mut answers, mut refusals) = (0, 0);
+    for seed in 710_000..714_000 {
+        let random = &mut Random::new(seed);
+        let table = random_table(random);
+        let question = question(random, &table);
+        let due = due(table.lend(), question);
+        let mut cells = [&[0; GUARD], &table.cells[..], &[0; GUARD]].concat();
+        let before = black_box(cells.clone());
+        let lent = CostTable {
+            cells: inner(&mut cells),
+            ..table.lend()
+        };
+        let entries = random.below(4);
+        let mut answer = [5; 7];
+        let number = enquire(lent, question, &mut answer[2..2 + entries]);
+        assert_eq!(number, due.number, "{question:?}, seed {seed}");
+        if entries > 0 {
+            assert!(due.values.contains(&answer[2]), "{question:?}, seed {seed}");
+            answer[2] = 5;
+        }
+        assert_eq!(answer, [5; 7]);
+        assert!(black_box(cells) == before, "cells, seed {seed}");
+        match number {
+            0 => answers += 1,
+            _ => refusals += 1,
+        }
+    }
+    assert!(
+        answers > 500 && refusals > 500,
+        "{answers} answers, {refusals} refusals"
     );
 }

@@ -2,8 +2,10 @@
 
 use std::thread;
 use uldhvamm_bench::compare::{call_library, call_reference, difference, Call, Run};
+use uldhvamm_bench::library::enquire;
+use uldhvamm_bench::reference::due;
 use uldhvamm_bench::sheets::{chain, random_sheet, Chain, Order, Random, Sheet};
-use uldhvamm_bench::tables::{Lengths, Tables};
+use uldhvamm_bench::tables::{CostTable, Lengths, Question, Tables};
 
 const STACK: usize = 32 * 1024;
 
@@ -14,10 +16,9 @@ fn garbage(sheet: &Sheet) -> Tables {
     Tables::with(Lengths::needed(n, k, sheet.legs().len()), || random.bits())
 }
 
-/// Calls the library in a thread with little stack.
-fn call_with_little_stack(call: &Call, sheet: &[u8], run: &mut Run) {
+/// Works in a thread with little stack.
+fn with_little_stack(work: impl FnOnce() + Send) {
     thread::scope(|scope| {
-        let work = || run.number = call_library(call, sheet, &mut run.tables, &mut run.answer);
         let thread = thread::Builder::new()
             .stack_size(STACK)
             .spawn_scoped(scope, work);
@@ -37,7 +38,9 @@ fn check(call: &Call, sheet: &Sheet) -> Run {
         tables: garbage(sheet),
     };
     let (mut library, mut reference) = (before.clone(), before);
-    call_with_little_stack(call, &bytes, &mut library);
+    with_little_stack(|| {
+        library.number = call_library(call, &bytes, &mut library.tables, &mut library.answer);
+    });
     reference.number = call_reference(call, &bytes, &mut reference.tables, &mut reference.answer);
     assert_eq!(difference(&library, &reference), None);
     library
@@ -76,4 +79,33 @@ fn stations_at_one_site_need_little_stack() {
         sheet.landing(station, 1)
     });
     assert_eq!(plan_and_read(&sheet), 0);
+}
+
+#[test]
+fn the_enquirer_needs_little_stack() {
+    let planned = check(&Call::Plan, &random_sheet(1, 1024, 10, 8192, 1000));
+    let table = CostTable {
+        cells: &planned.tables.cells,
+        sites: 1024,
+        stations: 10,
+    };
+    let asked = [
+        Question::BestSender { subset: 1023 },
+        Question::BestSender { subset: 1024 },
+        Question::Cell {
+            site: 1023,
+            subset: 1023,
+        },
+        Question::Cell {
+            site: 1024,
+            subset: 0,
+        },
+    ];
+    for question in asked {
+        let (mut number, mut answer) = (u32::MAX, [7; 3]);
+        with_little_stack(|| number = enquire(table, question, &mut answer));
+        let due = due(table, question);
+        assert_eq!((number, answer[1..].to_vec()), (due.number, vec![7; 2]));
+        assert!(due.values.contains(&answer[0]), "{question:?}");
+    }
 }

@@ -1,8 +1,9 @@
 //! The worked sheets A to L of document 01, with their answers written out, for the library and the reference.
 
 use uldhvamm_bench::compare::{both, Call};
+use uldhvamm_bench::library::answer_to_question;
 use uldhvamm_bench::sheets::{PlanFile, Random, Sheet};
-use uldhvamm_bench::tables::{Answer, Lengths, Tables};
+use uldhvamm_bench::tables::{Answer, CostTable, Enquiry, Lengths, Question, Tables};
 
 /// The plan file of sheet A, in hexadecimal.
 const FILE_OF_A: &str = "504E00000000000A00034C4700004C4700014C470002";
@@ -21,6 +22,15 @@ fn sheet_a() -> Sheet {
 
 fn sheet_b() -> Sheet {
     Sheet::new(1, 1).landing(0, 0)
+}
+
+fn sheet_c() -> Sheet {
+    Sheet::new(3, 2)
+        .link(0, 1, 9)
+        .link(0, 2, 4)
+        .landing(0, 0)
+        .landing(1, 1)
+        .landing(1, 2)
 }
 
 fn sheet_d(price: u32) -> Sheet {
@@ -104,9 +114,7 @@ fn a_is_planned() {
 #[test]
 fn b_to_e_are_answered() {
     assert_eq!(planned(&sheet_b().bytes()), plan(0, 0, &[]));
-    let c = Sheet::new(3, 2).link(0, 1, 9).link(0, 2, 4);
-    let c = c.landing(0, 0).landing(1, 1).landing(1, 2);
-    assert_eq!(planned(&c.bytes()), plan(0, 4, &[1]));
+    assert_eq!(planned(&sheet_c().bytes()), plan(0, 4, &[1]));
     assert_eq!(planned(&sheet_d(7).bytes()), plan(0, 7, &[0]));
     let e = Sheet::new(2, 2).landing(0, 0).landing(1, 1);
     assert_eq!(planned(&e.bytes()).0, refused(12, 0));
@@ -132,4 +140,60 @@ fn files_of_a_are_read() {
     assert_eq!(read_against_a(&from_hexadecimal(k)), refused(17, 0));
     let l = "504E00000000000B00034C4700004C4700014C470002";
     assert_eq!(read_against_a(&from_hexadecimal(l)), refused(19, 0));
+}
+
+/// The answers of the enquirer about the table that a sheet leaves: the best sender of each subset.
+fn senders(sheet: &Sheet) -> Vec<Enquiry> {
+    let (n, k) = (u32::from(sheet.sites), u32::from(sheet.stations));
+    let (_, tables) = answer(Call::Plan, &sheet.bytes(), Lengths::needed(4, 3, 5));
+    let table = CostTable {
+        cells: &tables.cells,
+        sites: n,
+        stations: k,
+    };
+    let subsets = 0..1 << k;
+    subsets
+        .map(|subset| answer_to_question(table, Question::BestSender { subset }))
+        .collect()
+}
+
+/// Fails where the best sender of a subset is none of its sites.
+fn check_senders(sheet: &Sheet, expected: &[&[u64]]) {
+    let found = senders(sheet);
+    assert_eq!(found.len(), expected.len());
+    for (subset, (answer, sites)) in found.into_iter().zip(expected).enumerate() {
+        let is_one = matches!(answer, Enquiry::Sender { site } if sites.contains(&site));
+        assert!(is_one, "subset {subset}: {answer:?}, not of {sites:?}");
+    }
+}
+
+#[test]
+fn cells_of_a_are_given() {
+    let (_, tables) = answer(Call::Plan, &sheet_a().bytes(), Lengths::needed(4, 3, 5));
+    let table = CostTable {
+        cells: &tables.cells,
+        sites: 4,
+        stations: 3,
+    };
+    let ask = |site, subset| answer_to_question(table, Question::Cell { site, subset });
+    let refused = |number| Enquiry::Refused { number, place: 0 };
+    let none = u64::from(u32::MAX);
+    assert_eq!(ask(0, 7), Enquiry::Cell { cell: 10 });
+    assert_eq!(ask(1, 3), Enquiry::Cell { cell: 6 });
+    assert_eq!(ask(3, 0), Enquiry::Cell { cell: 0 });
+    assert_eq!(ask(1, 7), Enquiry::Cell { cell: none });
+    assert_eq!(ask(4, 7), refused(4));
+    assert_eq!(ask(3, 8), refused(5));
+}
+
+#[test]
+fn best_senders_are_given() {
+    check_senders(
+        &sheet_a(),
+        &[&[0, 1, 2, 3], &[2], &[3], &[1], &[0], &[0], &[0], &[0]],
+    );
+    check_senders(&sheet_c(), &[&[0, 1, 2], &[0], &[1, 2], &[0]]);
+    check_senders(&sheet_d(7), &[&[0, 1], &[0], &[1], &[0, 1]]);
+    let e = senders(&Sheet::new(2, 2).landing(0, 0).landing(1, 1));
+    assert_eq!(e[3], Enquiry::NoSender);
 }

@@ -127,6 +127,51 @@ class Native(unittest.TestCase):
         self.assertEqual(list(answer), [0, 9, 9])
         self.assertEqual(self.functions.plan(SHEETS["A"], 72, *empty * 8), 11)
         self.assertEqual(self.functions.read_plan(SHEETS["A"], 72, *empty * 7), 11)
+        self.assertEqual(self.functions.cell(*empty, 1, 1, 0, 0, *empty), 11)
+        self.assertEqual(self.functions.best_sender(*empty, 1, 1, 0, *empty), 11)
+        cells = (ctypes.c_uint32 * 2)(0, 3)
+        self.assertEqual(self.functions.cell(cells, 2, 1, 1, 0, 1, *empty), 0)
+        self.assertEqual(self.functions.best_sender(cells, 2, 1, 1, 1, *empty), 0)
+
+    def asked(self, function: Any, numbers: list[int], number: int, value: int, length: int = 32) -> None:
+        """Tests a question about the first so many cells of sheet A, with answers of 0 to 4 entries, and that nothing else is written."""
+        for entries in range(5):
+            cells = (ctypes.c_uint32 * len(CELLS_OF_A))(*CELLS_OF_A)
+            answer = self.garbage(ctypes.c_uint64, entries + 3)
+            before = list(answer)
+            self.assertEqual(function(cells, length, *numbers, answer, entries), number, numbers)
+            self.assertEqual(list(answer), over([value][:entries], before), numbers)
+            self.assertEqual(list(cells), CELLS_OF_A)
+
+    def test_cells(self) -> None:
+        for place, cell in enumerate(CELLS_OF_A):
+            self.asked(self.functions.cell, [4, 3, place // 8, place % 8], 0, cell)
+        self.asked(self.functions.cell, [3, 3, 2, 1], 0, 0)
+        self.asked(self.functions.cell, [3, 3, 2, 1], 0, 0, length=24)
+
+    def test_senders(self) -> None:
+        for subset, site in [(1, 2), (2, 3), (3, 1), (4, 0), (5, 0), (6, 0), (7, 0)]:
+            self.asked(self.functions.best_sender, [4, 3, subset], 0, site)
+        unserved = (ctypes.c_uint32 * 4)(0, NONE, 0, NONE)
+        answer = (ctypes.c_uint64 * 2)(9, 9)
+        self.assertEqual(self.functions.best_sender(unserved, 4, 2, 1, 1, answer, 2), 0)
+        self.assertEqual(list(answer), [2**64 - 1, 9])
+
+    def test_refusals_of_the_enquirer(self) -> None:
+        highest = 2**32 - 1
+        for sites, stations in [(0, 3), (1025, 3), (highest, 3), (65540, 3), (4, 0), (4, 11), (4, 259), (4, highest)]:
+            for site, subset in [(0, 0), (highest, highest)]:
+                self.asked(self.functions.cell, [sites, stations, site, subset], 3, 0)
+                self.asked(self.functions.best_sender, [sites, stations, subset], 3, 0, length=0)
+        for site, subset in [(0, 0), (4, 0), (0, 8), (highest, highest)]:
+            self.asked(self.functions.cell, [4, 3, site, subset], 11, 0, length=31)
+            self.asked(self.functions.best_sender, [4, 3, subset], 11, 0, length=31)
+        for site in [4, 5, 65536, highest]:
+            self.asked(self.functions.cell, [4, 3, site, 0], 4, 0)
+            self.asked(self.functions.cell, [4, 3, site, 8], 4, 0)
+        for subset in [8, 9, 65536, highest]:
+            self.asked(self.functions.cell, [4, 3, 3, subset], 5, 0)
+            self.asked(self.functions.best_sender, [4, 3, subset], 5, 0)
 
 
 if __name__ == "__main__":

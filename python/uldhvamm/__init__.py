@@ -1,10 +1,11 @@
 """Uldhvamm, a planner of radio relays, for Python.
 
 From a sheet (sites, priced one-way legs, listening stations, and the sites where each station can be heard) the planner finds the
-cheapest directed tree of legs that reaches every station. The planning and the plan reader are those of the library libuldhvamm.so;
-this package encodes sheets and plan files, calls the library and decodes its answers. It needs nothing but the standard library.
+cheapest directed tree of legs that reaches every station. The planning, the plan reader and the enquirer are those of the library
+libuldhvamm.so; this package encodes sheets and plan files, calls the library and decodes its answers. It needs nothing but the standard
+library.
 
-    from uldhvamm import BothWays, Landing, Leg, Plan, build_sheet, load
+    from uldhvamm import BothWays, CostTable, Landing, Leg, Plan, build_sheet, load
 
     library = load()
     sheet = build_sheet(3, 2, [Leg(0, 1, 900), BothWays(1, 2, 400), Landing(0, 0), Landing(1, 2)])
@@ -13,15 +14,26 @@ this package encodes sheets and plan files, calls the library and decodes its an
         print(answer.root, answer.total, answer.legs)
     else:
         print(answer)
+
+The enquirer answers questions about the cost table of a sheet. A subset of the stations is a number, in which station i is worth 2^i:
+
+    table = library.cost_table(sheet)
+    if isinstance(table, CostTable):
+        print(library.cell(table, site=1, subset=2))
+        print(library.best_sender(table, subset=3))
 """
 
-from .answers import Accepted, Family, Plan, PlannedLeg, Refusal
+from .answers import Accepted, BestSender, Cell, Family, Plan, PlannedLeg, Refusal
+from .cost_table import CostTable
 from .formats import BothWays, Landing, Leg, Row, build_plan, build_sheet
 from .library import Library, load
 
 __all__ = [
     "Accepted",
+    "BestSender",
     "BothWays",
+    "Cell",
+    "CostTable",
     "Family",
     "Landing",
     "Leg",

@@ -1,9 +1,12 @@
-"""What the library answers: a plan, an accepted plan file, or a refusal with document 01's number, word, place and family."""
+"""What the library answers: a plan, an accepted plan file, a cell, a best sender, or a refusal with document 01's number, word, place and
+family.
+"""
 
 from __future__ import annotations
 
 import enum
 from dataclasses import dataclass
+from typing import Optional
 
 
 @dataclass(frozen=True)
@@ -33,6 +36,23 @@ class Accepted:
     root: int
     total: int
     legs: int
+
+
+@dataclass(frozen=True)
+class Cell:
+    """A cell of a cost table: the least total in cents of a tree from a site to a subset of the stations, or None where there is none."""
+
+    cost: Optional[int]
+
+
+@dataclass(frozen=True)
+class BestSender:
+    """The best sender of a subset: a site whose cell is least and finite, or None where no cell of the subset is finite.
+
+    Which of several equally cheap sites is given is left free.
+    """
+
+    site: Optional[int]
 
 
 class Family(enum.Enum):
@@ -71,7 +91,8 @@ _WORDS = {
 class Refusal:
     """A refusal: its number in document 01's table, and its place.
 
-    The place of 1 to 10 counts in the bytes of the sheet, that of 15 and 16 in those of the plan file; that of the others is 0.
+    The place of 1 to 10 counts in the bytes of the sheet, that of 15 and 16 in those of the plan file; that of the others, and of all
+    that the enquirer gives, is 0.
     """
 
     number: int

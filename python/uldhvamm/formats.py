@@ -92,8 +92,13 @@ def _record(mark: str, numbers: Sequence[int]) -> bytes:
 
 
 def _number(name: str, value: int, width: int) -> bytes:
-    """A number in so many bytes. What is no whole number is a TypeError."""
+    """A number in so many bytes."""
+    return fitting(name, value, width).to_bytes(width, "big")
+
+
+def fitting(name: str, value: int, width: int) -> int:
+    """A number that fits so many bytes. What is no whole number is a TypeError."""
     number = operator.index(value)
     if not 0 <= number < 256**width:
         raise ValueError(f"{name} {number} does not fit {width} bytes")
-    return number.to_bytes(width, "big")
+    return number

@@ -8,12 +8,20 @@ import struct
 from pathlib import Path
 from typing import Any, Union
 
-from .answers import Accepted, Plan, PlannedLeg, Refusal
+from .answers import Accepted, BestSender, Cell, Plan, PlannedLeg, Refusal
+from .cost_table import NO_COST, CostTable
+from .formats import fitting
 from .native import Functions, functions_of
 
 MAX_SITES = 1024
 MAX_STATIONS = 10
 MAX_LEGS = 8192
+
+# What the enquirer writes where a subset has no best sender.
+NO_SENDER = 18446744073709551615
+
+# What the planning returns where it has filled the tables: 0 for a plan, 12 and 13.
+_FINISHED = (0, 12, 13)
 
 # The types of the tables for a sheet at the limits. A plan file has 10 bytes and 4 for each leg, and a tree has fewer legs than sites.
 _LegSites = ctypes.c_uint16 * MAX_LEGS
@@ -22,6 +30,7 @@ _SiteSets = ctypes.c_uint16 * MAX_SITES
 _SiteMarks = ctypes.c_uint8 * MAX_SITES
 _PlanBytes = ctypes.c_uint8 * (10 + 4 * (MAX_SITES - 1))
 _Answer = ctypes.c_uint64 * 3
+_Value = ctypes.c_uint64 * 1
 
 
 class _Tables:
@@ -55,10 +64,10 @@ class _Tables:
 
 
 class Library:
-    """The planning and the plan reader of a shared library.
+    """The planning, the plan reader and the enquirer of a shared library.
 
-    A call has tables of its own and keeps nothing, so one Library may be used in any number of threads at once. The interpreter's
-    lock is free while the library works.
+    A call writes to tables of its own and keeps nothing, so one Library, and one CostTable, may be used in any number of threads at
+    once. The interpreter's lock is free while the library works.
     """
 
     def __init__(self, path: Path) -> None:
@@ -66,19 +75,7 @@ class Library:
 
     def plan(self, sheet: bytes) -> Union[Plan, Refusal]:
         """The cheapest plan for a sheet, or why there is none."""
-        given = _plain(sheet)
-        tables = _Tables(_cells_for(given))
-        number = self._functions.plan(
-            *_lent(given),
-            *_lent(tables.starts),
-            *_lent(tables.ends),
-            *_lent(tables.prices),
-            *_lent(tables.landings),
-            *_lent(tables.cells),
-            *_lent(tables.marks),
-            *_lent(tables.plan),
-            *_lent(tables.answer),
-        )
+        number, tables = self._planned(_plain(sheet))
         return tables.planned() if number == 0 else Refusal(number, tables.answer[0])
 
     def read_plan(self, sheet: bytes, file: bytes) -> Union[Accepted, Refusal]:
@@ -97,6 +94,55 @@ class Library:
             *_lent(tables.answer),
         )
         return Accepted(*tables.answer[:]) if number == 0 else Refusal(number, tables.answer[0])
+
+    def cost_table(self, sheet: bytes) -> Union[CostTable, Refusal]:
+        """The cost table of a sheet, as the planning leaves it, also where there is no plan; or why the sheet is refused."""
+        given = _plain(sheet)
+        number, tables = self._planned(given)
+        if number not in _FINISHED:
+            return Refusal(number, tables.answer[0])
+        return CostTable.of_array(*_head_of(given), tables.cells)
+
+    def cell(self, table: CostTable, site: int, subset: int) -> Union[Cell, Refusal]:
+        """The cell of a site and a subset of the stations, in which station i is worth 2^i.
+
+        Refused are, in this order: a bad head (3), too few cells (11), a site (4) or a subset (5) that the table has not. A number that
+        does not fit four bytes is a ValueError.
+        """
+        value = _Value()
+        asked = [fitting("site", site, 4), fitting("subset", subset, 4)]
+        number = self._functions.cell(*_lent_table(table), *asked, *_lent(value))
+        if number != 0:
+            return Refusal(number, value[0])
+        return Cell(None if value[0] == NO_COST else value[0])
+
+    def best_sender(self, table: CostTable, subset: int) -> Union[BestSender, Refusal]:
+        """A site whose cell of a subset of the stations is least and finite, or that there is none. Station i is worth 2^i in the subset.
+
+        Refused are, in this order: a bad head (3), too few cells (11), a subset that the table has not (5). A number that does not fit
+        four bytes is a ValueError.
+        """
+        value = _Value()
+        number = self._functions.best_sender(*_lent_table(table), fitting("subset", subset, 4), *_lent(value))
+        if number != 0:
+            return Refusal(number, value[0])
+        return BestSender(None if value[0] == NO_SENDER else value[0])
+
+    def _planned(self, given: bytes) -> tuple[int, _Tables]:
+        """Plans a sheet. The number that is returned, and the tables afterwards."""
+        tables = _Tables(_cells_for(given))
+        number = self._functions.plan(
+            *_lent(given),
+            *_lent(tables.starts),
+            *_lent(tables.ends),
+            *_lent(tables.prices),
+            *_lent(tables.landings),
+            *_lent(tables.cells),
+            *_lent(tables.marks),
+            *_lent(tables.plan),
+            *_lent(tables.answer),
+        )
+        return number, tables
 
 
 def load(path: Union[str, os.PathLike[str], None] = None) -> Library:
@@ -129,11 +175,16 @@ def _cells_for(sheet: bytes) -> int:
     """
     if len(sheet) < 5:
         return 0
-    sites, stations = struct.unpack_from(">HB", sheet, 2)
+    sites, stations = _head_of(sheet)
     if sites > MAX_SITES or stations > MAX_STATIONS:
         return 0
-    cells: int = sites << stations
-    return cells
+    return sites << stations
+
+
+def _head_of(sheet: bytes) -> tuple[int, int]:
+    """The numbers of sites and stations in the head of a sheet, its first five bytes."""
+    sites, stations = struct.unpack_from(">HB", sheet, 2)
+    return sites, stations
 
 
 def _plain(data: bytes) -> bytes:
@@ -146,3 +197,10 @@ def _plain(data: bytes) -> bytes:
 def _lent(entries: Any) -> tuple[Any, int]:
     """A table or a byte string as the library takes it: where it begins, and the number of its entries."""
     return entries, len(entries)
+
+
+def _lent_table(table: CostTable) -> tuple[Any, int, int, int]:
+    """A cost table as the library takes it: its cells and their number, and the numbers of sites and stations."""
+    if not isinstance(table, CostTable):
+        raise TypeError(f"a CostTable is needed, not {type(table).__name__}")
+    return table.lent, len(table.lent), table.sites, table.stations

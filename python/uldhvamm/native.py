@@ -1,7 +1,8 @@
-"""The two functions of the shared library, as include/uldhvamm.h declares them.
+"""The four functions of the shared library, as include/uldhvamm.h declares them.
 
 A table or a byte string passes as a pointer and the number of its entries. Byte strings pass as `bytes`, without a copy; tables pass as
-ctypes arrays, each call with its own, so that what the header asks of pointers holds.
+ctypes arrays. Those that are written are each call's own, and a cost table that the enquirer reads may be shared by calls, so that what
+the header asks of pointers holds.
 """
 
 from __future__ import annotations
@@ -15,6 +16,7 @@ _TABLE_8: list[Any] = [ctypes.POINTER(ctypes.c_uint8), ctypes.c_size_t]
 _TABLE_16: list[Any] = [ctypes.POINTER(ctypes.c_uint16), ctypes.c_size_t]
 _TABLE_32: list[Any] = [ctypes.POINTER(ctypes.c_uint32), ctypes.c_size_t]
 _TABLE_64: list[Any] = [ctypes.POINTER(ctypes.c_uint64), ctypes.c_size_t]
+_NUMBER: list[Any] = [ctypes.c_uint32]
 
 # starts, ends, prices, landings
 _LEGS_AND_LANDINGS: list[Any] = [*_TABLE_16, *_TABLE_16, *_TABLE_32, *_TABLE_16]
@@ -25,12 +27,23 @@ _PLAN: list[Any] = [*_BYTES, *_LEGS_AND_LANDINGS, *_TABLE_32, *_TABLE_8, *_TABLE
 # sheet, plan file, legs and landings, marks, answer
 _READ_PLAN: list[Any] = [*_BYTES, *_BYTES, *_LEGS_AND_LANDINGS, *_TABLE_8, *_TABLE_64]
 
+# cells, sites, stations, site, subset, answer
+_CELL: list[Any] = [*_TABLE_32, *_NUMBER, *_NUMBER, *_NUMBER, *_NUMBER, *_TABLE_64]
+
+# cells, sites, stations, subset, answer
+_BEST_SENDER: list[Any] = [*_TABLE_32, *_NUMBER, *_NUMBER, *_NUMBER, *_TABLE_64]
+
 
 class Functions(NamedTuple):
-    """`uldhvamm_plan` and `uldhvamm_read_plan`. Each takes the arguments of the header, in its order, and returns its number."""
+    """The functions, without `uldhvamm_` before their names. Each takes the arguments of the header, in its order, and returns its number.
+
+    A number of four bytes is passed as its lowest 32 bits: that it fits is for the caller to test.
+    """
 
     plan: Callable[..., int]
     read_plan: Callable[..., int]
+    cell: Callable[..., int]
+    best_sender: Callable[..., int]
 
 
 def functions_of(path: Path) -> Functions:
@@ -39,6 +52,8 @@ def functions_of(path: Path) -> Functions:
     return Functions(
         plan=_declared(shared.uldhvamm_plan, _PLAN),
         read_plan=_declared(shared.uldhvamm_read_plan, _READ_PLAN),
+        cell=_declared(shared.uldhvamm_cell, _CELL),
+        best_sender=_declared(shared.uldhvamm_best_sender, _BEST_SENDER),
     )
 
 

@@ -13,13 +13,17 @@
 //! - acceptance: the tables as for 17, `answer` has root, total and number of legs.
 //!
 //! `answer` gets as many of its values as it has entries. Entries past those named are as before.
+//!
+//! Of the enquirer, which names any of several best senders, it says what is due (`due`).
 
+mod enquirer;
 mod groups;
 mod layout;
 mod plan_file;
 mod search;
 mod sheet;
 
+pub use enquirer::{due, Due};
 pub use sheet::{read as read_sheet, Leg, Sheet};
 
 use crate::tables::Tables;

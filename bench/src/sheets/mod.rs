@@ -1,14 +1,16 @@
-//! Sheets as records and as bytes, and generators of sheets and plan files for the tests and the benchmark.
+//! Sheets as records and as bytes, and generators of sheets, plan files and questions for the tests and the benchmark.
 
 mod damage;
 mod files;
 mod large;
+mod questions;
 mod random;
 mod small;
 
 pub use damage::damaged;
 pub use files::{leg_records, varied_file, PlanFile};
 pub use large::{bad_reading, chain, filled_sheet, grid, random_sheet, Chain, Order};
+pub use questions::{question, random_table, MadeTable};
 pub use random::Random;
 pub use small::{small_sheet, tiny_sheet, wide_sheet};
 
