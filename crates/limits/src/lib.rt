@@ -21,8 +21,11 @@ pub const MIN_WEIGHT: u32 = 1;
 
 pub const MAX_WEIGHT: u32 = 1_000_000;
 
+// A cell of the cost table, and what is compared with one: the name of its width.
+pub type Cost = u32;
+
 // The cell of a site and a set that no directed subtree serves: "none".
-pub const NO_COST: u32 = 4_294_967_295;
+pub const NO_COST: Cost = 4_294_967_295;
 
 // The marks, two ASCII bytes each, read as one number.
 pub const MARK_HD: u16 = 0x4844;

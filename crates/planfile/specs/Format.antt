@@ -11,7 +11,7 @@ use Rattle.limits.specs.Marks.{markPN, markLG}
 use Rattle.lists.specs.Find.{allOf}
 use Rattle.lists.specs.Joined.{joined}
 use Rattle.lists.specs.Numbers.{numbers}
-use Rattle.sheet.specs.Fields.{number16, number32, bytes16, bytes32}
+use Rattle.number_fields.specs.Fields.{number16, number32, bytes16, bytes32}
 
 -- ---- the encoding
 

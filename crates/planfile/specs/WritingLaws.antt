@@ -1,13 +1,13 @@
--- Laws of the writing: what the stores of a number, of a record and of a whole file leave in the buffer, and what each outcome is.
+-- Laws of the writing: what the stores of a record and of a whole file leave in the buffer, and what each outcome is.
 -- Assumes nothing.
-use Prim.Native.Nat.{ℕ, _+_, _/_, _%_, _≤_, _<_, _^_}
+use Prim.Native.Nat.{ℕ, _+_, _≤_, _<_, _^_}
 use mathlib.Core.Path.{_≡_, refl, sym, ap, ap₂, _∙_}
 use mathlib.Core.Bool.{Bool, true, false, cond}
 use mathlib.Core.Option.{Option, none, some}
 use mathlib.Core.List.{List, [], _∷_}
 use native.Mathlib.Numerals.{add-one}
 use native.Mathlib.Omega.{arith}
-use lib.ListN.{length, getD, take, set}
+use lib.ListN.{length, getD, take}
 use lib.Seq.{sets, take-suc, length-take-le}
 use lib.Dec.{T, leb}
 use borrow.Author.Tests.{le-leb, lt-leb}
@@ -15,19 +15,12 @@ use Rattle.lists.specs.Tests.{by-fact}
 use Rattle.lists.specs.Joined.{joined, joined-append, length-joined}
 use Rattle.lists.specs.Over.{over}
 use Rattle.lists.specs.Stores.{sets-then, sets-over}
-use Rattle.sheet.specs.Fields.{bytes16}
 use Rattle.planfile.specs.Format.{headBytes, arcBytes, fileBytes, fits, fileSize}
 use Rattle.planfile.specs.FormatLaws.{Fits, passed-fits, fits-encoding, length-file}
 use Rattle.planfile.specs.Writing.{writing, writtenOver, writingOf}
 use Rattle.planfile.specs.declared.write.Written.the-variants.{File, ShortBuffer, NoFile}
 
 -- ---- stores
-
--- the two bytes of a number
-pub put-number : (l : List ℕ) (at x : ℕ) → x < 2 ^ 16 → set (set l at (x / 256)) (at + 1) (x % 256) ≡ sets l at (bytes16 x)
-put-number l at x h =
-    let high : x / 256 ≡ x / 256 % 256 = omega arith in
-    ap₂ (λ (b j : ℕ). set (set l at b) j (x % 256)) high (add-one at)
 
 -- one record more
 pub put-arc-more : (arcs l l' l'' : List ℕ) (i : ℕ) → i < length arcs → l' ≡ sets l (fileSize 0) (joined arcBytes (take i arcs))

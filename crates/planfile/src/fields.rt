@@ -1,6 +1,6 @@
 // The fields of a plan file: root, total, leg count, and the mark and the leg number of each record.
-use sheet::fields::u16_at;
-use sheet::fields::u32_at;
+use number_fields::u16_at;
+use number_fields::u32_at;
 ghost use mathlib.Core.Path.{_≡_};
 ghost use Prim.Native.Nat.{_+_, _≤_};
 ghost use lib.ListN.{length};

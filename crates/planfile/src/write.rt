@@ -2,12 +2,13 @@
 use crate::fields::ARC_SIZE;
 use crate::fields::HEAD_SIZE;
 use crate::fields::file_size;
+use number_fields::put_u16;
+use number_fields::put_u32;
 ghost use mathlib.Core.Path.{_≡_};
 ghost use Prim.Native.Nat.{_+_, _≤_, _<_};
 ghost use lib.ListN.{length};
 ghost use lib.Seq.{sets};
 ghost use Rattle.lists.specs.Joined.{joined};
-ghost use Rattle.sheet.specs.Fields.{bytes16, bytes32};
 ghost use Rattle.planfile.specs.Format.{headBytes, arcBytes, fileSize};
 ghost use Rattle.planfile.specs.Writing.{writing, writingOf};
 
@@ -21,24 +22,6 @@ pub enum Written {
     File(usize),
     ShortBuffer,
     NoFile,
-}
-
-// A number of two bytes, highest byte first.
-fn put_u16(buffer: &mut [u8], at: usize, x: u16)
-    requires { ⌜ at + 1 < length (now buffer) ⌝ }
-    ensures { λ _. ⌜ now (buffer .exit) ≡ sets (now (buffer .entry)) at (bytes16 x) ⌝ }
-{
-    buffer[at] = (x / 256) as u8;
-    buffer[at + 1] = (x % 256) as u8;
-}
-
-// A number of four bytes.
-fn put_u32(buffer: &mut [u8], at: usize, x: u32)
-    requires { ⌜ at + 3 < length (now buffer) ⌝ }
-    ensures { λ _. ⌜ now (buffer .exit) ≡ sets (now (buffer .entry)) at (bytes32 x) ⌝ }
-{
-    put_u16(buffer, at, (x / 65536) as u16);
-    put_u16(buffer, at + 2, (x % 65536) as u16);
 }
 
 // `PN`, root, total, leg count.

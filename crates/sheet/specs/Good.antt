@@ -9,7 +9,7 @@ use lib.ListN.{length, drop, length-append}
 use Rattle.limits.specs.Limits.{minNodes, maxNodes, minTerminals, maxTerminals, maxArcs}
 use Rattle.lists.specs.Every.{Every, every-drop}
 use Rattle.subset.specs.Sets.{full}
-use Rattle.sheet.specs.Fields.{Bytes}
+use Rattle.number_fields.specs.Fields.{Bytes}
 use Rattle.sheet.specs.Records.{RecordOk, headBytes, recordBytes, recordsBytes, endBytes, headSize, size}
 use Rattle.sheet.specs.RecordLaws.{read-bytes, end-bytes, head-bytes, found-bytes, found-end-bytes, opening-bytes, drop-record}
 use Rattle.sheet.specs.Arcs.{arcsOf, arcs}

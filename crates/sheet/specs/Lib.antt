@@ -1,5 +1,4 @@
 -- what a reader must believe, in document 01's order
-pub mod Fields
 pub mod Records
 pub mod Arcs
 pub mod Landings
@@ -7,8 +6,7 @@ pub mod Verdict
 pub mod Worked
 -- the law beside the verdict
 pub mod Good
--- laws of fields, records, landings and the reading
-pub mod FieldLaws
+-- laws of records, landings and the reading
 pub mod RecordLaws
 pub mod Passed
 pub mod Heard

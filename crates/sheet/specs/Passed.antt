@@ -13,7 +13,7 @@ use Rattle.lists.specs.Tests.{by-test}
 use Rattle.limits.specs.Marks.{markHD, markLK, markBK, markST, markED}
 use Rattle.answer.specs.declared.SheetFault.{SheetFault}
 use Rattle.subset.specs.Sets.{full}
-use Rattle.sheet.specs.Fields.{number8, number16, number32}
+use Rattle.number_fields.specs.Fields.{number8, number16, number32}
 use Rattle.sheet.specs.Records.{LinkOk, RecordOk, headFields, linkFields, landingFields, headSize, size}
 use Rattle.sheet.specs.Arcs.{arcsOf}
 use Rattle.sheet.specs.Verdict.{stateAfter, headFound, openingOf, linkTests, oneWayFound, bothWaysFound, landingFound, endFound, foundIn}

@@ -13,8 +13,8 @@ use Rattle.limits.specs.Limits.{minNodes, maxNodes, minTerminals, maxTerminals,
 use Rattle.limits.specs.Marks.{markHD, markLK, markBK, markST, markED}
 use Rattle.lists.specs.Every.{every-drop}
 use Rattle.subset.specs.Sets.{full}
-use Rattle.sheet.specs.Fields.{Bytes, bytes16, bytes32}
-use Rattle.sheet.specs.FieldLaws.{number16-bytes, number32-bytes, field8, field16, field32}
+use Rattle.number_fields.specs.Fields.{Bytes, bytes16, bytes32}
+use Rattle.number_fields.specs.FieldLaws.{number16-bytes, number32-bytes, field8, field16, field32}
 use Rattle.sheet.specs.Records.{LinkOk, RecordOk, linkFields, headBytes, recordBytes, endBytes, headSize, size}
 use Rattle.sheet.specs.Arcs.{arcsOf}
 use Rattle.sheet.specs.Verdict.{stateAfter, headFound, openingOf, linkTests, oneWayFound, bothWaysFound, landingFound, foundIn}

@@ -9,13 +9,15 @@ use lib.Dec.{ltb}
 use Rattle.limits.specs.Limits.{minWeight, maxWeight}
 use Rattle.limits.specs.Marks.{markHD, markLK, markBK, markST, markED}
 use Rattle.lists.specs.Joined.{joined}
-use Rattle.sheet.specs.Fields.{number8, number16, number32, bytes16, bytes32}
+use Rattle.number_fields.specs.Fields.{number8, number16, number32, bytes16, bytes32}
 use Rattle.sheet.specs.declared.fields.HeadFields.{HeadFields}
 use Rattle.sheet.specs.declared.fields.HeadFields.the-variants.{Short as NoHead, Fields as Head}
+use Rattle.sheet.specs.declared.fields.Link.{Link}
 use Rattle.sheet.specs.declared.fields.LinkFields.{LinkFields}
-use Rattle.sheet.specs.declared.fields.LinkFields.the-variants.{Short as NoLink, Fields as Link}
+use Rattle.sheet.specs.declared.fields.LinkFields.the-variants.{Short as NoLink, Fields as LinkOf}
+use Rattle.sheet.specs.declared.fields.Landing.{Landing as LandingAt}
 use Rattle.sheet.specs.declared.fields.LandingFields.{LandingFields}
-use Rattle.sheet.specs.declared.fields.LandingFields.the-variants.{Short as NoLanding, Fields as LandingAt}
+use Rattle.sheet.specs.declared.fields.LandingFields.the-variants.{Short as NoLanding, Fields as LandingOf}
 use Rattle.sheet.specs.declared.record.Record.{Record}
 use Rattle.sheet.specs.declared.record.Record.the-variants.{OneWay, BothWays, Landing}
 
@@ -24,12 +26,18 @@ abbrev pub headFields : List ℕ → HeadFields
 headFields bytes = cond (ltb (length bytes) 3) NoHead (Head (number16 bytes 0) (number8 bytes 2))
 
 -- `LK` and `BK`: from (2), to (2), price (4)
+abbrev pub linkIn : List ℕ → Link
+linkIn bytes = record { start = number16 bytes 0; end = number16 bytes 2; weight = number32 bytes 4 }
+
 abbrev pub linkFields : List ℕ → LinkFields
-linkFields bytes = cond (ltb (length bytes) 8) NoLink (Link (number16 bytes 0) (number16 bytes 2) (number32 bytes 4))
+linkFields bytes = cond (ltb (length bytes) 8) NoLink (LinkOf (linkIn bytes .start) (linkIn bytes .end) (linkIn bytes .weight))
 
 -- `ST`: station (1), site (2)
+abbrev pub landingIn : List ℕ → LandingAt
+landingIn bytes = record { terminal = number8 bytes 0; node = number16 bytes 1 }
+
 abbrev pub landingFields : List ℕ → LandingFields
-landingFields bytes = cond (ltb (length bytes) 3) NoLanding (LandingAt (number8 bytes 0) (number16 bytes 1))
+landingFields bytes = cond (ltb (length bytes) 3) NoLanding (LandingOf (landingIn bytes .terminal) (landingIn bytes .node))
 
 -- the bytes of the head, of a record and of the end
 abbrev pub headBytes : ℕ → ℕ → List ℕ

@@ -9,6 +9,7 @@ use Rattle.sheet.specs.Records.{size, RecordOk}
 use Rattle.sheet.specs.Arcs.{arcsOf}
 use Rattle.sheet.specs.Passed.{Passed}
 use Rattle.sheet.specs.declared.record.Record.{Record}
+use Rattle.sheet.specs.declared.record.Record.the-variants.{OneWay, BothWays, Landing}
 use Rattle.sheet.specs.declared.reading.Reading.{Reading}
 
 pub record Room (r : Reading) (x : Record) : Type 0 where
@@ -16,6 +17,17 @@ pub record Room (r : Reading) (x : Record) : Type 0 where
   pub arcs : r .arcs + length (arcsOf x) < 2 ^ 16
   pub terminals : r .k ≤ maxTerminals
   pub ok : RecordOk (r .n) (r .k) x
+
+-- the station of a landing is one of ten
+abbrev pub LandsOne : Record → Type 0
+LandsOne (OneWay start end weight) = Unit {0}
+LandsOne (BothWays start end weight) = Unit {0}
+LandsOne (Landing terminal node) = terminal < maxTerminals
+
+pub lands-one : (r : Reading) (x : Record) → Room r x → LandsOne x
+lands-one r (OneWay start end weight) room = tt
+lands-one r (BothWays start end weight) room = tt
+lands-one r (Landing terminal node) room = omega (arith, room .ok .0, room .terminals)
 
 -- where a record is found, there is room for it
 pub room-found : (r : Reading) (s : List ℕ) (x : Record) → r .arcs ≤ maxArcs → r .k ≤ maxTerminals → r .offset ≤ length s → length s < 2 ^ 64

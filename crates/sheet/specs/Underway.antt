@@ -8,7 +8,7 @@ use lib.ListN.{length, drop, length-drop}
 use lib.Seq.{drop-drop}
 use Rattle.limits.specs.Limits.{maxTerminals, maxArcs}
 use Rattle.answer.specs.declared.SheetFault.{SheetFault}
-use Rattle.sheet.specs.Records.{headSize, size, RecordOk}
+use Rattle.sheet.specs.Records.{headSize, size}
 use Rattle.sheet.specs.Arcs.{arcs}
 use Rattle.sheet.specs.Verdict.{good, bad, sizes, stateAfter, after, openingOf, foundIn, stepAfter, stepOf, reading, afterHead, verdict}
 use Rattle.sheet.specs.Passed.{found-item, size-low, opening-opened}
@@ -37,7 +37,7 @@ ready s r u =
     subst (λ (q : Reading). (q .arcs ≤ maxArcs) × (q .k ≤ maxTerminals) × (q .offset ≤ length s)) (sym (u .state)) (u .few, u .terminals, u .within)
 
 -- the state after the head
-unfoldable pub underway-opened : (s : List ℕ) (r : Reading) → openingOf s ≡ Opened r → Underway s r
+pub underway-opened : (s : List ℕ) (r : Reading) → openingOf s ≡ Opened r → Underway s r
 unfolding verdict
 underway-opened s r e =
     let o = opening-opened s r e in
@@ -58,10 +58,10 @@ unfolding verdict
 not-opened s f e = ap (afterHead s) e
 
 -- what a step has found
-step-next : (r : Reading) (f : Found) (x : Record) (q : Reading) → stepAfter r f ≡ Next x q → (f ≡ Item x) × (q ≡ after r x)
-step-next r (Item y) x q e = (cc, cc)
-step-next r End x q e = (cc, cc)
-step-next r (Fault g) x q e = (cc, cc)
+step-next : (r : Reading) (f : Found) (q : Reading) → stepAfter r f ≡ Next q → (x : Record) × (f ≡ Item x) × (q ≡ after r x)
+step-next r (Item y) q e = (y, refl, cc)
+step-next r End q e = let z : _≡_ {A = ℕ} 0 1 = cc in absurd (omega arith)
+step-next r (Fault g) q e = let z : _≡_ {A = ℕ} 0 1 = cc in absurd (omega arith)
 
 step-end : (r : Reading) (f : Found) → stepAfter r f ≡ Ended → f ≡ End
 step-end r (Item y) e = cc
@@ -85,38 +85,38 @@ module _ (s : List ℕ) (r : Reading) (u : Underway s r) where
   step-here p e = ap (λ (q : Reading). stepOf q s) (sym (u .state)) ∙ e
 
   -- a step that goes on: its record passes its tests, and the state is that after it
-  pub record Stepped (x : Record) (q : Reading) : Type 0 where
-    pub state : q ≡ stateAfter (u .n) (u .k) (u .records ++ (x ∷ []))
-    pub ok : RecordOk (u .n) (u .k) x
-    pub few : length (arcs (u .records ++ (x ∷ []))) ≤ maxArcs
-    pub within : headSize + sizes (u .records ++ (x ∷ [])) ≤ length s
-    pub same : verdict s ≡ reading (u .n) (u .k) (u .records ++ (x ∷ [])) (drop (headSize + sizes (u .records ++ (x ∷ []))) s)
+  record Stepped (q : Reading) : Type 0 where
+    pub item : Record
+    pub state : q ≡ stateAfter (u .n) (u .k) (u .records ++ (item ∷ []))
+    pub few : length (arcs (u .records ++ (item ∷ []))) ≤ maxArcs
+    pub within : headSize + sizes (u .records ++ (item ∷ [])) ≤ length s
+    pub same : verdict s ≡ reading (u .n) (u .k) (u .records ++ (item ∷ [])) (drop (headSize + sizes (u .records ++ (item ∷ []))) s)
 
-  pub stepped : (x : Record) (q : Reading) → stepOf r s ≡ Next x q → Stepped x q
+  stepped : (q : Reading) → stepOf r s ≡ Next q → Stepped q
   unfolding at left
-  stepped x q e =
-      let f = step-next at (foundIn at left) x q (step-here (Next x q) e) in
-      let p = found-item at left x (f .0) in
+  stepped q e =
+      let (x, found, next) = step-next at (foundIn at left) q (step-here (Next q) e) in
+      let p = found-item at left x found in
       let m = state-more (u .n) (u .k) (u .records) x in
       let o = ap (λ (z : Reading). z .offset) m in
       let a = ap (λ (z : Reading). z .arcs) m in
       record {
-        state = f .1 ∙ sym m;
-        ok = p .ok;
+        item = x;
+        state = next ∙ sym m;
         few = omega (arith, a, p .few (u .few));
         within = omega (arith, o, p .whole, length-drop (headSize + sizes (u .records)) s, u .within);
         same =
-            u .same ∙ reading-item (u .n) (u .k) (u .records) left x (f .0)
+            u .same ∙ reading-item (u .n) (u .k) (u .records) left x found
             ∙ ap (reading (u .n) (u .k) (u .records ++ (x ∷ []))) (drop-drop (size x) (headSize + sizes (u .records)) s ∙ ap (λ (z : ℕ). drop z s) (sym o));
       }
 
-  unfoldable pub underway-next : (x : Record) (q : Reading) → stepOf r s ≡ Next x q → Underway s q
-  underway-next x q e =
-      let w = stepped x q e in
+  pub underway-next : (q : Reading) → stepOf r s ≡ Next q → Underway s q
+  underway-next q e =
+      let w = stepped q e in
       record {
         n = u .n;
         k = u .k;
-        records = u .records ++ (x ∷ []);
+        records = u .records ++ (w .item ∷ []);
         state = w .state;
         terminals = u .terminals;
         few = w .few;
@@ -125,13 +125,13 @@ module _ (s : List ℕ) (r : Reading) (u : Underway s r) where
       }
 
   -- what is left falls
-  pub falls : (x : Record) (q : Reading) → stepOf r s ≡ Next x q → length s - q .offset < length s - r .offset
-  falls x q e =
-      let w = stepped x q e in
-      let o = ap (λ (z : Reading). z .offset) (state-more (u .n) (u .k) (u .records) x) in
+  pub falls : (q : Reading) → stepOf r s ≡ Next q → length s - q .offset < length s - r .offset
+  falls q e =
+      let w = stepped q e in
+      let o = ap (λ (z : Reading). z .offset) (state-more (u .n) (u .k) (u .records) (w .item)) in
       let a = ap (λ (z : Reading). z .offset) (u .state) in
       let b = ap (λ (z : Reading). z .offset) (w .state) in
-      omega (arith, w .within, o, a, b, size-low x)
+      omega (arith, w .within, o, a, b, size-low (w .item))
 
   -- the end of the reading
   pub ended : stepOf r s ≡ Ended → verdict s ≡ good (u .n) (u .k) (u .records)

@@ -11,7 +11,7 @@ use Rattle.limits.specs.Marks.{markHD, markLK, markBK, markST, markED}
 use Rattle.answer.specs.declared.SheetFault.{SheetFault}
 use Rattle.answer.specs.declared.SheetFault.the-variants.{ShortSheet, StrangeMark, BadHead, NoSuchSite, NoSuchStation, Loop, BadPrice, TooManyLegs, AfterTheEnd, Unheard}
 use Rattle.subset.specs.Sets.{full, union}
-use Rattle.sheet.specs.Fields.{number16}
+use Rattle.number_fields.specs.Fields.{number16}
 use Rattle.sheet.specs.Records.{headFields, linkFields, landingFields, recordsBytes, headSize, size}
 use Rattle.sheet.specs.Arcs.{arcsOf, arcs}
 use Rattle.sheet.specs.Landings.{heardBy, heard}
@@ -128,7 +128,7 @@ foundIn r bytes =
 
 -- one record further
 abbrev pub stepAfter : Reading → Found → Step
-stepAfter r (Item x) = Next x (after r x)
+stepAfter r (Item x) = Next (after r x)
 stepAfter r End = Ended
 stepAfter r (Fault f) = Stopped f
 

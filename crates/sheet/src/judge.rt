@@ -23,7 +23,7 @@ fn read_on(sheet: &[u8], first: Reading) -> Judged
     loop {
         let step = state.step(sheet);
         match step {
-            Step::Next(_, next) => {
+            Step::Next(next) => {
                 state = next;
             }
             Step::End => {

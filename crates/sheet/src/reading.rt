@@ -5,12 +5,10 @@ use crate::fields::LinkFields;
 use crate::fields::head_fields;
 use crate::fields::landing_fields;
 use crate::fields::link_fields;
-use crate::fields::u16_at;
 use crate::record::HEAD_SIZE;
-use crate::record::LANDING_SIZE;
-use crate::record::LINK_SIZE;
 use crate::record::Record;
 use answer::SheetFault;
+use number_fields::u16_at;
 use subset::Subset;
 ghost use mathlib.Core.Path.{_≡_};
 ghost use Prim.Native.Nat.{_+_, _≤_, _<_, _^_};
@@ -43,9 +41,9 @@ pub enum Found {
     Fault(SheetFault),
 }
 
-// One record further: the record and the state after it, the end, or the refusal.
+// One record further: the state after it, the end, or the refusal.
 pub enum Step {
-    Next(Record, Reading),
+    Next(Reading),
     End,
     Fault(SheetFault),
 }
@@ -215,30 +213,11 @@ impl Reading {
         requires { ⌜ Room self item ⌝ }
         ensures { λ r. ⌜ r ≡ after self item ⌝ }
     {
+        let heard = self.heard;
         let mut next = self;
-        match item {
-            Record::OneWay {
-                start: _,
-                end: _,
-                weight: _,
-            } => {
-                next.offset = self.offset + LINK_SIZE;
-                next.arcs = self.arcs + 1;
-            }
-            Record::BothWays {
-                start: _,
-                end: _,
-                weight: _,
-            } => {
-                next.offset = self.offset + LINK_SIZE;
-                next.arcs = self.arcs + 2;
-            }
-            Record::Landing { terminal, node: _ } => {
-                let heard = self.heard;
-                next.offset = self.offset + LANDING_SIZE;
-                next.heard = heard.union(Subset::single(terminal));
-            }
-        }
+        next.offset = self.offset + item.size();
+        next.arcs = self.arcs + item.arc_count();
+        next.heard = heard.union(item.heard());
         next
     }
 
@@ -250,7 +229,7 @@ impl Reading {
         let at = self.offset;
         let found = self.found(&sheet[at..]);
         match found {
-            Found::Item(record) => Step::Next(record, self.after(record)),
+            Found::Item(record) => Step::Next(self.after(record)),
             Found::End => Step::End,
             Found::Fault(fault) => Step::Fault(fault),
         }

@@ -1,4 +1,11 @@
-// The records between the head and the end of a sheet, and how many bytes the records take.
+// The records between the head and the end of a sheet: how many bytes and legs and which landings each has.
+use subset::Subset;
+ghost use mathlib.Core.Path.{_≡_};
+ghost use lib.ListN.{length};
+ghost use Rattle.sheet.specs.Records.{size};
+ghost use Rattle.sheet.specs.Arcs.{arcsOf};
+ghost use Rattle.sheet.specs.Landings.{heardBy};
+ghost use Rattle.sheet.specs.Room.{LandsOne};
 
 pub enum Record {
     // `LK`: one leg.
@@ -9,9 +16,77 @@ pub enum Record {
     Landing { terminal: u8, node: u16 },
 }
 
-// The bytes of `HD`, of `LK` or `BK`, and of `ST`, each with its mark.
+// The bytes of `HD`, of `LK` or `BK`, of `ST` and of `ED`, each with its mark.
 pub const HEAD_SIZE: usize = 5;
 
 pub const LINK_SIZE: usize = 10;
 
 pub const LANDING_SIZE: usize = 5;
+
+pub const END_SIZE: usize = 2;
+
+impl Record {
+    // How many bytes it takes.
+    pub fn size(self) -> usize
+        ensures { λ r. ⌜ r ≡ size self ⌝ }
+    {
+        match self {
+            Record::OneWay {
+                start: _,
+                end: _,
+                weight: _,
+            } => LINK_SIZE,
+            Record::BothWays {
+                start: _,
+                end: _,
+                weight: _,
+            } => LINK_SIZE,
+            Record::Landing {
+                terminal: _,
+                node: _,
+            } => LANDING_SIZE,
+        }
+    }
+
+    // How many legs it has.
+    pub fn arc_count(self) -> u16
+        ensures { λ r. ⌜ r ≡ length (arcsOf self) ⌝ }
+    {
+        match self {
+            Record::OneWay {
+                start: _,
+                end: _,
+                weight: _,
+            } => 1,
+            Record::BothWays {
+                start: _,
+                end: _,
+                weight: _,
+            } => 2,
+            Record::Landing {
+                terminal: _,
+                node: _,
+            } => 0,
+        }
+    }
+
+    // The stations that have a landing by it.
+    pub fn heard(self) -> Subset
+        requires { ⌜ LandsOne self ⌝ }
+        ensures { λ r. ⌜ r .0 ≡ heardBy self ⌝ }
+    {
+        match self {
+            Record::OneWay {
+                start: _,
+                end: _,
+                weight: _,
+            } => Subset::EMPTY,
+            Record::BothWays {
+                start: _,
+                end: _,
+                weight: _,
+            } => Subset::EMPTY,
+            Record::Landing { terminal, node: _ } => Subset::single(terminal),
+        }
+    }
+}

@@ -5,7 +5,7 @@ use mathlib.Core.Path.{refl}
 use denote.Ref.{now}
 use Rattle.limits.specs.Marks.{markLG}
 use Rattle.lists.specs.Stores.{sets-then}
-use Rattle.sheet.specs.Fields.{bytes16}
+use Rattle.number_fields.specs.Fields.{bytes16}
 use borrow.Author.Needs.{needs}
 use Rattle.planfile.proofs.write.put_arc.Statement.{statement}
 use Rattle.planfile.proofs.write.put_arc.Tie as tie

@@ -5,7 +5,7 @@ use mathlib.Core.List.{_++_}
 use denote.Ref.{now}
 use Rattle.limits.specs.Marks.{markPN}
 use Rattle.lists.specs.Stores.{sets-then}
-use Rattle.sheet.specs.Fields.{bytes16, bytes32}
+use Rattle.number_fields.specs.Fields.{bytes16, bytes32}
 use borrow.Author.Needs.{needs}
 use Rattle.planfile.proofs.write.put_head.Statement.{statement}
 use Rattle.planfile.proofs.write.put_head.Tie as tie

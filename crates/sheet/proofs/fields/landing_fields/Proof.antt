@@ -8,14 +8,11 @@ use Rattle.sheet.proofs.fields.landing_fields.Tie as tie
 returns : tie.Need-returns
 returns c = simp (lt-ltb _ _ (c .if1 .taken))
 
-shared-slice-read-t5 : tie.Need-shared-slice-read-t5
-shared-slice-read-t5 c = search needs
-
-u16-at-requires : tie.Need-u16-at-requires
-u16-at-requires c κs = search needs
+landing-in-requires : tie.Need-landing-in-requires
+landing-in-requires c κs = search needs
 
 returns-2 : tie.Need-returns-2
-returns-2 c = simp (c .u16-at .ensures, le-ltb _ _ (c .before .before .if1 .left))
+returns-2 c = simp (c .landing-in .ensures, le-ltb _ _ (c .before .if1 .left))
 
 pub landing-fields-spec : {M : Type 1} → statement M
-landing-fields-spec = tie.close (tie.spec returns shared-slice-read-t5 u16-at-requires returns-2)
+landing-fields-spec = tie.close (tie.spec returns landing-in-requires returns-2)

@@ -26,10 +26,10 @@ enum-known-step : tie.Need-enum-known-step Inv-loop μ-loop
 enum-known-step c = search needs
 
 loop-less : tie.Need-loop-less Inv-loop μ-loop
-loop-less c = falls (now (c .before .before .before .before .before .before .args .sheet)) (c .before .before .before .before .loop .state) (c .before .before .before .before .loop .inv) _ _ (sym (c .before .before .before .step .ensures) ∙ c .before .step2 .given .1)
+loop-less c = falls (now (c .before .before .before .before .before .before .args .sheet)) (c .before .before .before .before .loop .state) (c .before .before .before .before .loop .inv) _ (sym (c .before .before .before .step .ensures) ∙ c .before .step2 .given .1)
 
 loop-again : tie.Need-loop-again Inv-loop μ-loop
-loop-again c = underway-next (now (c .before .before .before .before .before .before .args .sheet)) (c .before .before .before .before .loop .state) (c .before .before .before .before .loop .inv) _ _ (sym (c .before .before .before .step .ensures) ∙ c .before .step2 .given .1)
+loop-again c = underway-next (now (c .before .before .before .before .before .before .args .sheet)) (c .before .before .before .before .loop .state) (c .before .before .before .before .loop .inv) _ (sym (c .before .before .before .step .ensures) ∙ c .before .step2 .given .1)
 
 enum-told : tie.Need-enum-told Inv-loop μ-loop
 enum-told c = search needs

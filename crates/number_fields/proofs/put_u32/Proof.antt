@@ -1,13 +1,13 @@
--- `planfile::write::put_u32` meets its contract. The lower half is stored after the upper one.
+-- `number_fields::put_u32` meets its contract. The lower half is stored after the upper one.
 -- Assumes nothing.
 use Prim.Native.Nat.{_+_, _/_, _%_}
 use mathlib.Core.Path.{refl}
 use denote.Ref.{now}
 use Rattle.lists.specs.Stores.{sets-then}
-use Rattle.sheet.specs.Fields.{bytes16}
+use Rattle.number_fields.specs.Fields.{bytes16}
 use borrow.Author.Needs.{needs}
-use Rattle.planfile.proofs.write.put_u32.Statement.{statement}
-use Rattle.planfile.proofs.write.put_u32.Tie as tie
+use Rattle.number_fields.proofs.put_u32.Statement.{statement}
+use Rattle.number_fields.proofs.put_u32.Tie as tie
 
 cast-put-u16 : tie.Need-cast-put-u16
 cast-put-u16 c = search needs

@@ -1,10 +1,10 @@
--- `planfile::write::put_u16` meets its contract. A number of 16 bits has a high byte below 256.
+-- `number_fields::put_u16` meets its contract. A number of 16 bits has a high byte below 256.
 -- Assumes nothing.
 use denote.Ref.{now}
-use Rattle.planfile.specs.WritingLaws.{put-number}
+use Rattle.number_fields.specs.FieldLaws.{put-number}
 use borrow.Author.Needs.{needs}
-use Rattle.planfile.proofs.write.put_u16.Statement.{statement}
-use Rattle.planfile.proofs.write.put_u16.Tie as tie
+use Rattle.number_fields.proofs.put_u16.Statement.{statement}
+use Rattle.number_fields.proofs.put_u16.Tie as tie
 
 cast-buffer : tie.Need-cast-buffer
 cast-buffer c = search needs

@@ -1,10 +1,10 @@
--- `sheet::fields::u16_at` meets its contract. A byte is below 256, so two of them make a number of 16 bits.
+-- `number_fields::u16_at` meets its contract. A byte is below 256, so two of them make a number of 16 bits.
 -- Assumes nothing.
 use native.Mathlib.Omega.{arith}
 use Prim.Native.Nat.{_+_}
 use borrow.Author.Needs.{needs}
-use Rattle.sheet.proofs.fields.u16_at.Statement.{statement}
-use Rattle.sheet.proofs.fields.u16_at.Tie as tie
+use Rattle.number_fields.proofs.u16_at.Statement.{statement}
+use Rattle.number_fields.proofs.u16_at.Tie as tie
 
 shared-slice-read-result : tie.Need-shared-slice-read-result
 shared-slice-read-result c = search needs

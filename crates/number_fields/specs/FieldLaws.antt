@@ -1,14 +1,15 @@
--- Numbers and their bytes: the number of a number's bytes is that number, and the bytes of the number at a place are the bytes there.
+-- Numbers and their bytes: the number of a number's bytes is that number, the bytes of the number at a place are the bytes there, and what the
+-- stores of a number leave.
 -- Assumes nothing.
 use Prim.Native.Nat.{ℕ, _+_, _*_, _/_, _%_, _≤_, _<_, _^_}
 use mathlib.Core.Path.{_≡_, sym, ap, ap₂, _∙_, subst}
 use mathlib.Core.List.{List, _∷_, _++_}
 use native.Mathlib.Numerals.{add-one}
 use native.Mathlib.Omega.{arith}
-use lib.ListN.{length, getD, drop}
-use lib.Seq.{drop-cons, getD-drop}
+use lib.ListN.{length, getD, drop, set}
+use lib.Seq.{sets, drop-cons, getD-drop}
 use Rattle.lists.specs.Every.{at-every, every-drop}
-use Rattle.sheet.specs.Fields.{Bytes, number8, number16, number32, bytes16, bytes32}
+use Rattle.number_fields.specs.Fields.{Bytes, number8, number16, number32, bytes16, bytes32}
 
 -- ---- from a number to its bytes and back
 
@@ -64,3 +65,11 @@ module _ (s : List ℕ) (bytes : Bytes s) where
       field16 at (x / 65536) (omega arith) (omega arith)
       ∙ ap (λ (l : List ℕ). bytes16 (x / 65536) ++ l) (field16 (at + 2) (x % 65536) (omega arith) (omega arith))
       ∙ ap (λ (i : ℕ). bytes32 x ++ drop i s) j
+
+-- ---- stores
+
+-- a number's two bytes are stored one after the other
+pub put-number : (l : List ℕ) (at x : ℕ) → x < 2 ^ 16 → set (set l at (x / 256)) (at + 1) (x % 256) ≡ sets l at (bytes16 x)
+put-number l at x h =
+    let high : x / 256 ≡ x / 256 % 256 = omega arith in
+    ap₂ (λ (b j : ℕ). set (set l at b) j (x % 256)) high (add-one at)
