@@ -1,11 +1,11 @@
 -- what a reader must believe
 pub mod Graph
-pub mod InTables
+pub mod HeldGraph
 pub mod Paths
 pub mod Subtrees
 pub mod LeastTotals
 pub mod Growth
-pub mod Tables
+pub mod ClosedSupported
 pub mod Layout
 -- the theorems
 pub mod Theorems

@@ -25,7 +25,7 @@ use Rattle.graph.specs.Paths.{DirectedPath, Reaches, ReachesAll, reached
 use Rattle.graph.specs.Subtrees.{Subtree, held, Covers, CoversAll, total, isTree, isSubtree, isCovering}
 use Rattle.graph.specs.LeastTotals.{leastTotal, leastCell, NoSubtree, Least, IsLeastTotal, IsCostTable, Room}
 use Rattle.graph.specs.Growth.{firstExtending, keptThen, growIn, grow, kept}
-use Rattle.graph.specs.Tables.{Closed, Support, Supported, Capped, StartedSet, ClosedSet, put}
+use Rattle.graph.specs.ClosedSupported.{Closed, Support, Supported, Capped, StartedSet, ClosedSet, put}
 use Rattle.graph.specs.Layout.{isDone, fits, splits, followIn, layoutIn, layout, rootOf, LowestCheapest}
 use Rattle.graph.specs.laws.Holding.{held-reached, reached-held}
 use Rattle.graph.specs.laws.SubtreeParts.{start-reached}

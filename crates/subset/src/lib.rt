@@ -1,6 +1,6 @@
 // Sets of stations (document 01, "Subsets"): a set is a number below 2^k, and station i is worth 2^i.
 ghost use mathlib.Core.Path.{_≡_};
-ghost use Prim.Native.Nat.{_≤_, _<_};
+ghost use Prim.Native.Nat.{_^_, _≤_, _<_};
 ghost use lib.Count.{ones};
 ghost use Rattle.limits.specs.Limits.{maxTerminals};
 ghost use Rattle.subset.specs.Sets.{full, single, has, isPart, rest, union, terminalsIn};
@@ -70,4 +70,12 @@ pub fn terminals_in(entry: u16) -> Subset
     ensures { λ r. ⌜ r .0 ≡ terminalsIn entry ⌝ }
 {
     Subset(entry % limits::MAX_SUBSETS)
+}
+
+// How many sets k stations have.
+pub fn sets_of(k: u8) -> usize
+    requires { ⌜ k ≤ maxTerminals ⌝ }
+    ensures { λ r. ⌜ r ≡ 2 ^ k ⌝ }
+{
+    1usize << k
 }

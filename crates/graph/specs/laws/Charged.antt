@@ -14,7 +14,7 @@ use Rattle.lists.specs.Tests.{by-fact, by-eq, ne-fact, fact-true, and-right, an
 use Rattle.subset.specs.Sets.{single}
 use Rattle.subset.specs.SetOf.{setOf, setOf-lt, setOf-same, setOf-none, setOf-single, setOf-union, setOf-apart}
 use Rattle.graph.specs.Graph.{Graph, Landing}
-use Rattle.graph.specs.Tables.{Closed}
+use Rattle.graph.specs.ClosedSupported.{Closed}
 use Rattle.graph.specs.laws.ClosedTables.{closed-landing, closed-arc, closed-split}
 
 -- the cell of v and w; the empty set, too, costs the charge of v

@@ -9,7 +9,7 @@ use lib.Pow.{pow-lt}
 use Rattle.subset.specs.Sets.{single}
 use Rattle.subset.specs.Parts.{single-ne}
 use Rattle.graph.specs.Graph.{Graph, Landing}
-use Rattle.graph.specs.Tables.{Closed}
+use Rattle.graph.specs.ClosedSupported.{Closed}
 
 module _ {G : Graph} {c : ℕ → ℕ → ℕ} where
   module _ (C : Closed G c) where

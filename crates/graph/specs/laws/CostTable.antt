@@ -19,7 +19,7 @@ use Rattle.graph.specs.Graph.{Graph, Sound}
 use Rattle.graph.specs.Subtrees.{Subtree, Covers, total}
 use Rattle.graph.specs.LeastTotals.{Least, NoSubtree, IsCostTable, Room}
 use Rattle.graph.specs.Growth.{kept}
-use Rattle.graph.specs.Tables.{Closed, Supported, Capped, put}
+use Rattle.graph.specs.ClosedSupported.{Closed, Supported, Capped, put}
 use Rattle.graph.specs.laws.SubtreeParts.{arc-of, start-reached, total-by-arc}
 use Rattle.graph.specs.laws.ClosedTables.{closed-landing, closed-arc, closed-split, make-closed}
 use Rattle.graph.specs.laws.LowerBound.{subtree-lower}

@@ -20,7 +20,7 @@ use Rattle.subset.specs.Sizes.{proper-part-size, rest-size}
 use Rattle.graph.specs.Graph.{Graph, Sound, Landing}
 use Rattle.graph.specs.Subtrees.{Subtree, Covers, total}
 use Rattle.graph.specs.Growth.{kept}
-use Rattle.graph.specs.Tables.{Closed, Support, by-landing, by-arc, by-split, Supported}
+use Rattle.graph.specs.ClosedSupported.{Closed, Support, by-landing, by-arc, by-split, Supported}
 use Rattle.graph.specs.Layout.{isDone, fits, splits, layout}
 use Rattle.graph.specs.laws.ClosedTables.{closed-arc, closed-split}
 use Rattle.graph.specs.laws.Growing.{kept-all, whole-subtree}

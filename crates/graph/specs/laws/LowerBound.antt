@@ -19,7 +19,7 @@ use Rattle.subset.specs.SetOf.{setOf-lt, setOf-same, setOf-has}
 use Rattle.graph.specs.Graph.{Graph, Sound, Landing}
 use Rattle.graph.specs.Subtrees.{Subtree, held, Covers, total}
 use Rattle.graph.specs.Growth.{kept}
-use Rattle.graph.specs.Tables.{Closed}
+use Rattle.graph.specs.ClosedSupported.{Closed}
 use Rattle.graph.specs.laws.Holding.{heldAfter, held-after, covers-more}
 use Rattle.graph.specs.laws.SubtreeParts.{cost, total-by-arc, arc-of}
 use Rattle.graph.specs.laws.GrownLists.{Grown}

@@ -10,7 +10,7 @@ use lib.Dec.{eqb, eqb→eq, eqb-refl}
 use Rattle.lists.specs.Tests.{by-fact, and-left, and-right, and-both, choice-first}
 use Rattle.lists.specs.Sums.{sumTo, sumTo-lt}
 use Rattle.graph.specs.Graph.{Graph, Sound}
-use Rattle.graph.specs.Tables.{Support, by-landing, by-arc, by-split, Supported, Capped, put}
+use Rattle.graph.specs.ClosedSupported.{Support, by-landing, by-arc, by-split, Supported, Capped, put}
 
 -- ---- one cell
 

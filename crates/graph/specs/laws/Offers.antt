@@ -14,7 +14,7 @@ use Rattle.subset.specs.Sets.{has, single, Part, isPart}
 use Rattle.subset.specs.Parts.{part-le, part-sum, rest-disjoint}
 use Rattle.graph.specs.Graph.{Graph, Landing}
 use Rattle.graph.specs.Layout.{landsAlone}
-use Rattle.graph.specs.Tables.{Support, by-landing, by-arc, by-split}
+use Rattle.graph.specs.ClosedSupported.{Support, by-landing, by-arc, by-split}
 
 -- ---- what a landing, an arc and a split give; `top` where they give nothing
 

@@ -12,7 +12,7 @@ use Rattle.lists.specs.Tests.{by-fact}
 use Rattle.subset.specs.Sets.{single, Part}
 use Rattle.subset.specs.Parts.{part-sum, part-sum-right}
 use Rattle.graph.specs.Graph.{Graph, Sound, Landing}
-use Rattle.graph.specs.Tables.{StartedSet, ClosedSet}
+use Rattle.graph.specs.ClosedSupported.{StartedSet, ClosedSet}
 
 -- the two sets of a split are parts of the set
 part-left : (y z w : ℕ) → bitAnd y z ≡ 0 → y + z ≡ w → Part y w

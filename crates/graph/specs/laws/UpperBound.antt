@@ -18,7 +18,7 @@ use Rattle.graph.specs.Graph.{Graph, Sound, Landing}
 use Rattle.graph.specs.Paths.{DirectedPath}
 use Rattle.graph.specs.Subtrees.{Subtree, held, Covers, total}
 use Rattle.graph.specs.Growth.{kept}
-use Rattle.graph.specs.Tables.{Support, by-landing, by-arc, by-split, Supported}
+use Rattle.graph.specs.ClosedSupported.{Support, by-landing, by-arc, by-split, Supported}
 use Rattle.graph.specs.laws.Reaching.{path-same, path-more, path-before}
 use Rattle.graph.specs.laws.Holding.{covers-more, held-reached}
 use Rattle.graph.specs.laws.SubtreeParts.{cost, total-by-arc}

@@ -1,0 +1,64 @@
+-- The tests of the lengths pass exactly where the tables are long enough; and the test of the cells, as code makes it.
+-- Assumes nothing.
+use Prim.Native.Nat.{ℕ, _*_, _^_, _≤_, _<_}
+use mathlib.Core.Path.{_≡_, refl, sym, ap, _∙_}
+use mathlib.Core.Bool.{Bool, true, _&&_}
+use native.Mathlib.Nat.{mul-le-mul}
+use native.Mathlib.Omega.{arith}
+use lib.Dec.{leb}
+use lib.ListN.{length}
+use lib.Pow.{pow-mono}
+use borrow.Author.Tests.{leb-true, le-leb}
+use Rattle.limits.specs.Limits.{maxTerminals, maxSubsets}
+use Rattle.lists.specs.Tests.{both-true}
+use Rattle.lent_tables.specs.SheetTables.{SheetTables}
+use Rattle.lent_tables.specs.Lengths.{Enough, AllLong, isEnough, areLong}
+use Rattle.lent_tables.specs.declared.TableLength.{TableLength}
+use Rattle.lent_tables.specs.declared.TableLength.the-variants.{Entries, NotNeeded}
+use Rattle.lent_tables.specs.declared.FurtherLengths.{FurtherLengths}
+
+enough-true : (need : ℕ) (table : TableLength) → isEnough need table ≡ true → Enough need table
+enough-true need (Entries count) e = leb-true need count e
+enough-true need NotNeeded e = tt
+
+true-enough : (need : ℕ) (table : TableLength) → Enough need table → isEnough need table ≡ true
+true-enough need (Entries count) h = le-leb need count h
+true-enough need NotNeeded h = refl
+
+module _ (n k arcCount : ℕ) (t : SheetTables) (f : FurtherLengths) where
+  pub test-long : areLong n k arcCount t f ≡ true → AllLong n k arcCount t f
+  test-long e =
+      let a = leb arcCount (length (t .starts)) in
+      let b = leb arcCount (length (t .ends)) in
+      let c = leb arcCount (length (t .weights)) in
+      let d = leb n (length (t .landings)) in
+      let x = isEnough (n * 2 ^ k) (f .cells) in
+      let (before-marks, marks) = both-true (a && b && c && d && x) (isEnough n (f .marks)) e in
+      let (loaded, cells) = both-true (a && b && c && d) x before-marks in
+      let (arcs, landings) = both-true (a && b && c) d loaded in
+      let (both, weights) = both-true (a && b) c arcs in
+      let (starts, ends) = both-true a b both in
+      record {
+        tables = record { starts = leb-true _ _ starts; ends = leb-true _ _ ends; weights = leb-true _ _ weights; landings = leb-true _ _ landings };
+        further = record { cells = enough-true (n * 2 ^ k) (f .cells) cells; marks = enough-true n (f .marks) marks };
+      }
+
+  pub long-passes : AllLong n k arcCount t f → areLong n k arcCount t f ≡ true
+  long-passes l =
+      let tables = l .tables in
+      λ i. le-leb _ _ (tables .starts) i && le-leb _ _ (tables .ends) i && le-leb _ _ (tables .weights) i && le-leb _ _ (tables .landings) i
+      && true-enough (n * 2 ^ k) (f .cells) (l .further .cells) i && true-enough n (f .marks) (l .further .marks) i
+
+-- ---- the number of cells, as code has it
+
+-- n times the number of sets fits a number of 64 bits
+pub cells-fit : (n k size : ℕ) → n < 2 ^ 16 → k ≤ maxTerminals → size ≡ 2 ^ k → n * size < 2 ^ 64
+cells-fit n k size few small is =
+    let sets : size ≤ maxSubsets = omega (arith, is, pow-mono {j = maxTerminals} small) in
+    let low : n ≤ 2 ^ 16 = omega arith in
+    omega (arith, mul-le-mul low sets)
+
+-- the test of the cells, as code makes it
+pub cells-test : (n k size : ℕ) (table : TableLength) (passes b : Bool) → size ≡ 2 ^ k → passes ≡ isEnough (n * size) table → passes ≡ b
+    → isEnough (n * 2 ^ k) table ≡ b
+cells-test n k size table passes b is e t = ap (λ (x : ℕ). isEnough (n * x) table) (sym is) ∙ sym e ∙ t

@@ -1,0 +1,93 @@
+// The lent tables: the lengths that are needed of them, and whether they have them. specs/SheetTables.antt has the tables that hold a sheet, as a
+// record of lists; a function is lent each table by itself.
+use subset::sets_of;
+ghost use mathlib.Core.Path.{_≡_};
+ghost use Prim.Native.Nat.{_≤_};
+ghost use Rattle.limits.specs.Limits.{maxTerminals};
+ghost use Rattle.lent_tables.specs.Lengths.{isEnough, lengthsPass, marksOnly, cellsAndMarks};
+
+// The length of a further table, one that is not loaded with the sheet: its number of entries, where it is needed.
+pub enum TableLength {
+    Entries(usize),
+    NotNeeded,
+}
+
+// The lengths of all further tables: cells (n times 2^k) and marks (n).
+pub struct FurtherLengths {
+    pub cells: TableLength,
+    pub marks: TableLength,
+}
+
+impl FurtherLengths {
+    // No further table is needed.
+    pub const NONE: FurtherLengths = FurtherLengths {
+        cells: TableLength::NotNeeded,
+        marks: TableLength::NotNeeded,
+    };
+
+    // The marks are needed.
+    pub fn of_marks(marks: usize) -> FurtherLengths
+        ensures { λ r. ⌜ r ≡ marksOnly marks ⌝ }
+    {
+        FurtherLengths {
+            cells: TableLength::NotNeeded,
+            marks: TableLength::Entries(marks),
+        }
+    }
+
+    // The cells and the marks are needed.
+    pub fn of_cells_and_marks(cells: usize, marks: usize) -> FurtherLengths
+        ensures { λ r. ⌜ r ≡ cellsAndMarks cells marks ⌝ }
+    {
+        FurtherLengths {
+            cells: TableLength::Entries(cells),
+            marks: TableLength::Entries(marks),
+        }
+    }
+}
+
+// Whether a further table has so many entries, where it is needed.
+fn is_enough(need: usize, table: TableLength) -> bool
+    ensures { λ r. ⌜ r ≡ isEnough need table ⌝ }
+{
+    match table {
+        TableLength::Entries(count) => need <= count,
+        TableLength::NotNeeded => true,
+    }
+}
+
+// Whether tables of these lengths are long enough for a sheet with n sites, k stations and so many legs.
+pub fn long_enough(
+    n: u16,
+    k: u8,
+    arcs: u16,
+    starts: usize,
+    ends: usize,
+    weights: usize,
+    landings: usize,
+    further: FurtherLengths,
+) -> bool
+    requires { ⌜ k ≤ maxTerminals ⌝ }
+    ensures { λ r. ⌜ r ≡ lengthsPass n k arcs starts ends weights landings further ⌝ }
+{
+    let arc_count = arcs as usize;
+    if starts < arc_count {
+        return false;
+    }
+    if ends < arc_count {
+        return false;
+    }
+    if weights < arc_count {
+        return false;
+    }
+    let node_count = n as usize;
+    if landings < node_count {
+        return false;
+    }
+    let cells = further.cells;
+    if !is_enough(node_count * sets_of(k), cells) {
+        return false;
+    }
+    let marks = further.marks;
+    is_enough(node_count, marks)
+}
