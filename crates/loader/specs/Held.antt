@@ -17,9 +17,10 @@ use Rattle.sheet.specs.Landings.{terminalsAt, terminalSets}
 use Rattle.sheet.specs.Records.{RecordOk}
 use Rattle.sheet.specs.Heard.{terminalsAt-lt}
 use Rattle.sheet.specs.declared.record.Record.{Record}
-use Rattle.loader.specs.Tables.{Tables, loaded}
+use Rattle.lent_tables.specs.SheetTables.{SheetTables}
+use Rattle.loader.specs.Loaded.{loaded}
 
-module _ (n : ℕ) (records : List Record) (t : Tables) where
+module _ (n : ℕ) (records : List Record) (t : SheetTables) where
   column-held : (f : Arc → ℕ) (old : List ℕ) (i : ℕ) → i < length (arcs records)
       → getD (over (map f (arcs records)) old) i (f (arc 0 0 0)) ≡ f (arcAt records i)
   column-held f old i h =

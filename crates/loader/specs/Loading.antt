@@ -1,91 +1,77 @@
 -- Loading a good sheet record after record: the tables hold the records that have been read, and at the end all of them.
 -- Assumes nothing.
-use Prim.Native.Nat.{ℕ, _+_, _≤_}
-use mathlib.Core.Path.{_≡_, sym, ap, ap₂, _∙_, subst}
-use mathlib.Core.Bool.{Bool, true, false, cond, _&&_}
-use mathlib.Core.List.{List, [], _∷_, _++_}
+use Prim.Native.Nat.{ℕ, _+_, _-_, _≤_, _<_}
+use mathlib.Core.Path.{_≡_, refl, sym, ap, ap₂, _∙_, subst}
+use mathlib.Core.List.{List, [], _∷_, _++_, append-assoc, append-nil}
 use native.Mathlib.Omega.{arith}
-use borrow.Author.Tests.{leb-true, le-leb}
-use lib.Dec.{leb}
-use lib.ListN.{length, drop, replicate, length-append}
-use Rattle.limits.specs.Limits.{maxTerminals}
-use Rattle.lists.specs.Tests.{both-true}
-use Rattle.answer.specs.declared.SheetFault.{SheetFault}
-use Rattle.limits.specs.Refusals.{shortTables}
-use Rattle.answer.specs.Stated.{refused, ofTables, statedSheet}
-use Rattle.sheet.specs.Records.{headSize, RecordOk}
-use Rattle.sheet.specs.Arcs.{arcs}
-use Rattle.sheet.specs.Verdict.{Verdict, good, bad, sizes, openingOf, stepOf, verdict}
-use Rattle.sheet.specs.Reads.{arcs-append, count-more, reading-extends}
-use Rattle.loader.specs.Tables.{Tables, tables, Long, areLong, loaded, loadedBy, sheet, refusal, outcome, byVerdict, loadingOf}
-use Rattle.loader.specs.Writing.{withRecord, long-fewer, LandingFits, Fits, SameLengths, loaded-lengths, loaded-more, loaded-none, loaded-anew}
-use Rattle.sheet.specs.Underway.{Underway, stepped, underway-opened, underway-next, ended, stopped}
-use Rattle.sheet.specs.Judged.{judgedOf}
+use lib.ListN.{length, take, drop, replicate, length-append}
+use Rattle.limits.specs.Limits.{maxTerminals, maxArcs}
+use Rattle.lists.specs.Every.{Every, every-right}
+use Rattle.lists.specs.Rest.{take-rest}
+use Rattle.lent_tables.specs.SheetTables.{SheetTables, withLandings, Long, SameLengths, long-same, long-fewer, long-arcs}
+use Rattle.sheet.specs.Records.{recordBytes, recordsBytes, endBytes, headSize, size, RecordOk}
+use Rattle.sheet.specs.Arcs.{arcsOf, arcs}
+use Rattle.sheet.specs.Verdict.{Verdict, sizes, verdict}
+use Rattle.sheet.specs.Good.{IsSheet, sheet-is-good}
+use Rattle.sheet.specs.Passed.{size-low}
+use Rattle.sheet.specs.Reads.{arcs-append, sizes-append, count-more}
+use Rattle.loader.specs.FirstRecord.{WholeRecord, firstRecord, whole-record, first-record, sheet-length, bytes-left}
 use Rattle.sheet.specs.declared.record.Record.{Record}
 use Rattle.sheet.specs.declared.record.Record.the-variants.{OneWay, BothWays, Landing}
-use Rattle.sheet.specs.declared.reading.Reading.{Reading}
-use Rattle.sheet.specs.declared.reading.Opening.the-variants.{Head as Opened}
-use Rattle.sheet.specs.declared.reading.Step.the-variants.{Next, End as Ended, Fault as Stopped}
-use Rattle.sheet.specs.declared.judge.Judged.the-variants.{Good, Fault}
+use Rattle.loader.specs.Loaded.{loaded, loadedBy}
+use Rattle.loader.specs.Writing.{withRecord, LandingFits, Fits, loaded-lengths, loaded-more, loaded-none, loaded-anew}
 
--- a good sheet, with tables that are long enough for it
-pub record Loadable (s : List ℕ) (t : Tables) : Type 0 where
-  pub n : ℕ
+-- a sheet with n sites, and tables that are long enough for it
+pub record Loadable (s : List ℕ) (n : ℕ) (t : SheetTables) : Type 0 where
   pub k : ℕ
   pub records : List Record
-  pub good-sheet : verdict s ≡ good n k records
+  pub sheet : IsSheet s n k records
   pub long : Long n (length (arcs records)) t
 
--- a loading underway: the tables, which held t₀ before, hold the records that have been read
-pub record Loading (s : List ℕ) (t₀ : Tables) (r : Reading) (t : Tables) : Type 0 where
-  pub loadable : Loadable s t₀
-  pub underway : Underway s r
-  pub holds : t ≡ loaded (underway .n) (underway .records) t₀
+-- a loading underway: the next record, or the end, stands at the place `at`, so many legs have been read, and the tables, which held t₀ before,
+-- hold the records that have been read
+pub record Loading (s : List ℕ) (t₀ : SheetTables) (at count : ℕ) (t : SheetTables) : Type 0 where
+  pub n : ℕ
+  pub loadable : Loadable s n t₀
+  pub done : List Record
+  pub more : List Record
+  pub whole : loadable .records ≡ done ++ more
+  pub place : at ≡ headSize + sizes done
+  pub counted : count ≡ length (arcs done)
+  pub holds : t ≡ loaded n done t₀
 
 -- ---- before the first record
 
 -- the first n landing sets are empty
-abbrev pub cleared : ℕ → Tables → Tables
-cleared n t = tables (t .starts) (t .ends) (t .weights) (replicate n 0 ++ drop n (t .landings))
+abbrev pub cleared : ℕ → SheetTables → SheetTables
+cleared n t = withLandings (replicate n 0 ++ drop n (t .landings)) t
 
--- the sites of the head are those of the verdict
-same-head : (s : List ℕ) (t : Tables) (r : Reading) (l : Loadable s t) → openingOf s ≡ Opened r → l .n ≡ r .n
-unfolding underway-opened
-same-head s t r l e =
-    let u = underway-opened s r e in
-    reading-extends (u .n) (u .k) (u .records) (drop (headSize + sizes (u .records)) s) (l .n) (l .k) (l .records) (sym (u .same) ∙ l .good-sheet) .same-n
+module _ (s : List ℕ) (n : ℕ) (t : SheetTables) (l : Loadable s n t) where
+  cleared-is : cleared n t ≡ loaded n [] t
+  cleared-is = sym (loaded-none n [] t)
 
-module _ (s : List ℕ) (t : Tables) (r : Reading) (l : Loadable s t) (e : openingOf s ≡ Opened r) where
-  pub nodes-fit : r .n ≤ length (t .landings)
-  nodes-fit = omega (arith, same-head s t r l e, l .long .landings)
-
-  cleared-is : cleared (r .n) t ≡ loaded (r .n) [] t
-  cleared-is = sym (loaded-none (r .n) [] t)
-
-  pub loading-opened : Loading s (cleared (r .n) t) r (cleared (r .n) t)
-  unfolding underway-opened
+  pub loading-opened : Loading s (cleared n t) headSize 0 (cleared n t)
   loading-opened =
-      let same : SameLengths (loaded (r .n) [] t) t = loaded-lengths (r .n) [] t (record { starts = omega arith; ends = omega arith; weights = omega arith; landings = nodes-fit }) in
-      let landings : length (cleared (r .n) t .landings) ≡ length (t .landings) = ap (λ (t' : Tables). length (t' .landings)) cleared-is ∙ same .landings in
+      let none : Long n 0 t = long-fewer n 0 (length (arcs (l .records))) t (omega arith) (l .long) in
+      let same : SameLengths (cleared n t) t = subst (λ (t' : SheetTables). SameLengths t' t) (sym cleared-is) (loaded-lengths n [] t none) in
       record {
-        loadable =
-            record {
-              n = l .n;
-              k = l .k;
-              records = l .records;
-              good-sheet = l .good-sheet;
-              long = record { starts = l .long .starts; ends = l .long .ends; weights = l .long .weights; landings = omega (arith, landings, l .long .landings) };
-            };
-        underway = underway-opened s r e;
-        holds = cleared-is ∙ sym (loaded-anew (r .n) [] t) ∙ ap (loaded (r .n) []) (sym cleared-is);
+        n = n;
+        loadable = record { k = l .k; records = l .records; sheet = l .sheet; long = long-same same (l .long) };
+        done = [];
+        more = l .records;
+        whole = refl;
+        place = refl;
+        counted = refl;
+        holds = cleared-is ∙ sym (loaded-anew n [] t) ∙ ap (loaded n []) (sym cleared-is);
       }
 
-  pub loaded-cleared : loadedBy (verdict s) (cleared (r .n) t) ≡ loadedBy (verdict s) t
+  pub loaded-cleared : loadedBy (verdict s) (cleared n t) ≡ loadedBy (verdict s) t
   loaded-cleared =
-      ap (λ (v : Verdict). loadedBy v (cleared (r .n) t)) (l .good-sheet)
-      ∙ ap (loaded (l .n) (l .records)) (cleared-is ∙ ap (λ (m : ℕ). loaded m [] t) (sym (same-head s t r l e)))
-      ∙ loaded-anew (l .n) (l .records) t
-      ∙ sym (ap (λ (v : Verdict). loadedBy v t) (l .good-sheet))
+      let good = sheet-is-good s n (l .k) (l .records) (l .sheet) in
+      ap (λ (v : Verdict). loadedBy v (cleared n t)) good
+      ∙ ap (loaded n (l .records)) cleared-is
+      ∙ loaded-anew n (l .records) t
+      ∙ sym (ap (λ (v : Verdict). loadedBy v t) good)
 
 -- ---- one record more
 
@@ -94,131 +80,128 @@ landing-fits n k nodes (OneWay start end weight) ok h b = tt
 landing-fits n k nodes (BothWays start end weight) ok h b = tt
 landing-fits n k nodes (Landing terminal node) ok h b = (omega (arith, ok .1), omega (arith, ok .0))
 
-module _ (s : List ℕ) (t₀ : Tables) (r : Reading) (t : Tables) (l : Loading s t₀ r t) where
-  -- the tables are long enough for the records that have been read, and for one more
-  long-next : (x : Record) (q : Reading) → stepOf r s ≡ Next x q → Long (l .underway .n) (length (arcs (l .underway .records ++ (x ∷ [])))) t₀
-  long-next x q e =
-      let u = l .underway in
-      let w = stepped s r u x q e in
-      let g = l .loadable in
-      let b = reading-extends (u .n) (u .k) (u .records ++ (x ∷ [])) (drop (headSize + sizes (u .records ++ (x ∷ []))) s) (g .n) (g .k) (g .records) (sym (w .same) ∙ g .good-sheet) in
-      let count : length (arcs (g .records)) ≡ length (arcs (u .records ++ (x ∷ []))) + length (arcs (b .more)) =
-      ap (λ (l' : List Record). length (arcs l')) (b .rest) ∙ ap length (arcs-append (u .records ++ (x ∷ [])) (b .more)) ∙ length-append (arcs (u .records ++ (x ∷ []))) (arcs (b .more)) in
-      long-fewer (u .n) (length (arcs (u .records ++ (x ∷ [])))) (length (arcs (g .records))) t₀ (omega (arith, count)) (subst (λ (m : ℕ). Long m (length (arcs (g .records))) t₀) (b .same-n) (g .long))
+-- the record that stands next
+record NextRecord (n k : ℕ) (more left : List Record) (bytes : List ℕ) (x : Record) : Type 0 where
+  pub is : more ≡ x ∷ left
+  pub first : firstRecord bytes ≡ x
+  pub whole : WholeRecord bytes
+  pub ok : RecordOk n k x
 
-  arcs-so-far : r .arcs ≡ length (arcs (l .underway .records))
-  arcs-so-far = ap (λ (q : Reading). q .arcs) (l .underway .state)
+module _ (s : List ℕ) (t₀ : SheetTables) (at count : ℕ) (t : SheetTables) (l : Loading s t₀ at count t) where
+  abbrev sheet : IsSheet s (l .n) (l .loadable .k) (l .loadable .records)
+  sheet = l .loadable .sheet
 
-  pub loading-fits : (x : Record) (q : Reading) → stepOf r s ≡ Next x q → Fits (r .arcs) x t
-  loading-fits x q e =
-      let u = l .underway in
-      let w = stepped s r u x q e in
-      let h = long-next x q e in
-      let count = count-more (u .records) x in
-      let same : SameLengths t t₀ =
-      subst (λ (t' : Tables). SameLengths t' t₀) (sym (l .holds))
-      (loaded-lengths (u .n) (u .records) t₀ (long-fewer (u .n) (length (arcs (u .records))) (length (arcs (u .records ++ (x ∷ [])))) t₀ (omega (arith, count)) h)) in
-      record {
-        starts = omega (arith, arcs-so-far, count, same .starts, h .starts);
-        ends = omega (arith, arcs-so-far, count, same .ends, h .ends);
-        weights = omega (arith, arcs-so-far, count, same .weights, h .weights);
-        landings = landing-fits (u .n) (u .k) (length (t .landings)) x (w .ok) (omega (arith, same .landings, h .landings)) (u .terminals);
-      }
+  -- the place and the end of the sheet
+  places : length s ≡ at + sizes (l .more) + length endBytes
+  places =
+      let all = sheet-length s (l .n) (l .loadable .k) (l .loadable .records) sheet in
+      omega (arith, all, ap sizes (l .whole), sizes-append (l .done) (l .more), l .place)
 
-  pub loading-next : (x : Record) (q : Reading) → stepOf r s ≡ Next x q → (t' : Tables) → t' ≡ withRecord (r .arcs) x t → Loading s t₀ q t'
-  unfolding underway-next
-  loading-next x q e t' written =
-      let u = l .underway in
-      let w = stepped s r u x q e in
-      record {
-        loadable = l .loadable;
-        underway = underway-next s r u x q e;
-        holds =
-            written ∙ ap₂ (λ (i : ℕ) (t'' : Tables). withRecord i x t'') arcs-so-far (l .holds)
-            ∙ loaded-more (u .n) (u .records) t₀ (u .k) x (w .ok) (long-next x q e);
-      }
+  left-is : drop at s ≡ recordsBytes (l .more) ++ endBytes
+  left-is = ap (λ (i : ℕ). drop i s) (l .place) ∙ bytes-left s (l .n) (l .loadable .k) (l .loadable .records) sheet (l .done) (l .more) (l .whole)
 
-  -- ---- the end
+  -- there is room before the end
+  pub end-fits : length endBytes ≤ length s
+  end-fits = omega (arith, places)
 
-  pub loading-end : stepOf r s ≡ Ended → t ≡ loadedBy (verdict s) t₀
-  loading-end e = l .holds ∙ ap (λ (v : Verdict). loadedBy v t₀) (sym (ended s r (l .underway) e))
-
-  -- a good sheet has no refusal
-  pub loading-fault : (f : SheetFault) → stepOf r s ≡ Stopped f → ⊥
-  loading-fault f e =
-      let b : bad f ≡ good (l .loadable .n) (l .loadable .k) (l .loadable .records) = sym (stopped s r (l .underway) f e) ∙ l .loadable .good-sheet in
-      let z : _≡_ {A = ℕ} 0 1 = cc in
-      omega arith
-
--- ---- the whole: judged, tested, loaded
-
--- the verdict of a sheet that is judged good
-pub record JudgedGood (v : Verdict) (n k arcCount : ℕ) : Type 0 where
-  pub records : List Record
-  pub good-sheet : v ≡ good n k records
-  pub count : length (arcs records) ≡ arcCount
-
-pub judged-good : (v : Verdict) (n k arcCount : ℕ) → Good n k arcCount ≡ judgedOf v → JudgedGood v n k arcCount
-judged-good (good n' k' records) n k arcCount e = record { records = records; good-sheet = cc; count = cc }
-judged-good (bad f) n k arcCount e = let z : _≡_ {A = ℕ} 0 1 = cc in absurd (omega arith)
-
-pub long-enough : (n arcCount : ℕ) (t : Tables) → areLong n arcCount t ≡ true → Long n arcCount t
-long-enough n arcCount t e =
-    let a = leb arcCount (length (t .starts)) in
-    let b = leb arcCount (length (t .ends)) in
-    let c = leb arcCount (length (t .weights)) in
-    let d = leb n (length (t .landings)) in
-    let p = both-true (a && b && c) d e in
-    let q = both-true (a && b) c (p .0) in
-    let o = both-true a b (q .0) in
-    record { starts = leb-true _ _ (o .0); ends = leb-true _ _ (o .1); weights = leb-true _ _ (q .1); landings = leb-true _ _ (p .1) }
-
-pub areLong-true : (n arcCount : ℕ) (t : Tables) → Long n arcCount t → areLong n arcCount t ≡ true
-areLong-true n arcCount t l =
-    λ i. le-leb _ _ (l .starts) i && le-leb _ _ (l .ends) i && le-leb _ _ (l .weights) i && le-leb _ _ (l .landings) i
-
--- what follows the verdict on a sheet that is judged
-module _ {A : Type 0} (refuse : SheetFault → A) (short : A) (long : (n k arcCount : ℕ) → Bool) (next : ℕ → ℕ → List Record → A) (s : List ℕ) where
-  pub by-fault : (f : SheetFault) → Fault f ≡ judgedOf (verdict s) → refuse f ≡ byVerdict refuse short long next (verdict s)
-  by-fault f e = go (verdict s) e
+  -- at the end all records have been read
+  pub loading-end : length s ≤ at + length endBytes → t ≡ loadedBy (verdict s) t₀
+  loading-end ended = go (l .more) (l .whole) places
     where
-      go : (v : Verdict) → Fault f ≡ judgedOf v → refuse f ≡ byVerdict refuse short long next v
-      go (good n k records) q = let z : _≡_ {A = ℕ} 0 1 = cc in absurd (omega arith)
-      go (bad g) q = let same : f ≡ g = cc in ap refuse same
+      go : (more : List Record) → l .loadable .records ≡ l .done ++ more → length s ≡ at + sizes more + length endBytes → t ≡ loadedBy (verdict s) t₀
+      go [] whole p =
+          l .holds ∙ ap (λ (records : List Record). loaded (l .n) records t₀) (sym (whole ∙ append-nil (l .done)))
+          ∙ sym (ap (λ (v : Verdict). loadedBy v t₀) (sheet-is-good s (l .n) (l .loadable .k) (l .loadable .records) sheet))
+      go (x ∷ more) whole p = absurd (omega (arith, p, length-append (recordBytes x) (recordsBytes more), size-low x))
 
-  module _ (n k arcCount : ℕ) (f : JudgedGood (verdict s) n k arcCount) where
-    by-lengths : (b : Bool) → long n k arcCount ≡ b → cond b (next n k (f .records)) short ≡ byVerdict refuse short long next (verdict s)
-    by-lengths b h =
-        sym (ap (byVerdict refuse short long next) (f .good-sheet)
-        ∙ ap (λ (c : Bool). cond c (next n k (f .records)) short) (ap (long n k) (f .count) ∙ h))
+  -- before the end another record stands at the place
+  module _ (before : at + length endBytes < length s) where
+    next : (x : Record) × (left : List Record) × NextRecord (l .n) (l .loadable .k) (l .more) left (drop at s) x
+    next = go (l .more) refl places left-is
+      where
+        go : (more : List Record) → l .more ≡ more → length s ≡ at + sizes more + length endBytes → drop at s ≡ recordsBytes more ++ endBytes
+            → (x : Record) × (left : List Record) × NextRecord (l .n) (l .loadable .k) (l .more) left (drop at s) x
+        go [] e p bytes = absurd (omega arith)
+        go (x ∷ left) e p bytes =
+            let rest = recordsBytes left ++ endBytes in
+            let here : drop at s ≡ recordBytes x ++ rest = bytes ∙ append-assoc (recordBytes x) (recordsBytes left) endBytes in
+            let each = every-right (RecordOk (l .n) (l .loadable .k)) (l .done) (l .more) (subst (Every (RecordOk (l .n) (l .loadable .k))) (l .whole) (sheet .each)) in
+            let ok : RecordOk (l .n) (l .loadable .k) x = subst (Every (RecordOk (l .n) (l .loadable .k))) e each .0 in (
+              x,
+              left,
+              record {
+                is = e;
+                first = ap firstRecord here ∙ first-record (l .n) (l .loadable .k) x rest (sheet .nodes .1) ok;
+                whole = subst WholeRecord (sym here) (whole-record x rest);
+                ok = ok;
+              },
+            )
 
-    pub by-short : long n k arcCount ≡ false → short ≡ byVerdict refuse short long next (verdict s)
-    by-short = by-lengths false
+    -- the part of the sheet from the place on, as code takes it, begins with a whole record
+    pub loading-whole : WholeRecord (take (length s - at) (drop at s))
+    loading-whole = let (x, left, r) = next in subst WholeRecord (sym (take-rest at s)) (r .whole)
 
-    pub by-good : long n k arcCount ≡ true → next n k (f .records) ≡ byVerdict refuse short long next (verdict s)
-    by-good = by-lengths true
+    module _ (x : Record) (read : x ≡ firstRecord (take (length s - at) (drop at s))) where
+      -- it is the one that is read from there
+      found : (left : List Record) × NextRecord (l .n) (l .loadable .k) (l .more) left (drop at s) x
+      found =
+          let (y, left, r) = next in
+          (left, subst (NextRecord (l .n) (l .loadable .k) (l .more) left (drop at s)) (sym (read ∙ ap firstRecord (take-rest at s) ∙ r .first)) r)
 
-module _ (s : List ℕ) (t : Tables) where
-  module _ (n k arcCount : ℕ) (e : Good n k arcCount ≡ judgedOf (verdict s)) where
-    judged : JudgedGood (verdict s) n k arcCount
-    judged = judged-good (verdict s) n k arcCount e
+      whole-more : l .loadable .records ≡ (l .done ++ (x ∷ [])) ++ found .0
+      whole-more = l .whole ∙ ap (λ (more : List Record). l .done ++ more) (found .1 .is) ∙ sym (append-assoc (l .done) (x ∷ []) (found .0))
 
-    pub loadable-tested : areLong n arcCount t ≡ true → Loadable s t
-    loadable-tested h = record {
-      n = n;
-      k = k;
-      records = judged .records;
-      good-sheet = judged .good-sheet;
-      long = subst (λ (m : ℕ). Long n m t) (sym (judged .count)) (long-enough n arcCount t h);
-    }
+      counts : length (arcs (l .loadable .records)) ≡ count + length (arcsOf x) + length (arcs (found .0))
+      counts =
+          omega (
+            arith,
+            ap (λ (records : List Record). length (arcs records)) whole-more,
+            ap length (arcs-append (l .done ++ (x ∷ [])) (found .0)),
+            length-append (arcs (l .done ++ (x ∷ []))) (arcs (found .0)),
+            count-more (l .done) x,
+            l .counted,
+          )
 
-    pub loaded-whole : areLong n arcCount t ≡ true → (t' : Tables) → t' ≡ loadedBy (verdict s) t → outcome (sheet n k arcCount) t' ≡ loadingOf s t
-    loaded-whole h t' written =
-        ap₂ (λ (m : ℕ) (x : Tables). outcome (sheet n k m) x) (sym (judged .count)) (written ∙ ap (λ (v : Verdict). loadedBy v t) (judged .good-sheet))
-        ∙ by-good _ _ (λ n k m. areLong n m t) _ s n k arcCount judged h
+      -- the tables are long enough for it
+      long-next : Long (l .n) (length (arcs (l .done ++ (x ∷ [])))) t₀
+      long-next =
+          long-fewer (l .n) (length (arcs (l .done ++ (x ∷ [])))) (length (arcs (l .loadable .records))) t₀
+          (omega (arith, counts, count-more (l .done) x, l .counted)) (l .loadable .long)
 
-    pub refused-short : areLong n arcCount t ≡ false → outcome (refusal (refused ofTables shortTables 0)) t ≡ loadingOf s t
-    refused-short h = by-short _ _ (λ n k m. areLong n m t) _ s n k arcCount judged h
+      pub loading-fits : Fits count x t
+      loading-fits =
+          let more = count-more (l .done) x in
+          let h = long-next in
+          let now-long : Long (l .n) (length (arcs (l .done))) t₀ = long-fewer (l .n) (length (arcs (l .done))) (length (arcs (l .done ++ (x ∷ [])))) t₀ (omega (arith, more)) h in
+          let same : SameLengths t t₀ = subst (λ (t' : SheetTables). SameLengths t' t₀) (sym (l .holds)) (loaded-lengths (l .n) (l .done) t₀ now-long) in
+          record {
+            arcs = subst (λ (i : ℕ). Long 0 i t) (omega (arith, l .counted, more)) (long-arcs (long-same same h));
+            landings = landing-fits (l .n) (l .loadable .k) (length (t .landings)) x (found .1 .ok) (omega (arith, same .landings, h .landings)) (sheet .terminals .1);
+          }
 
-  pub refused-sheet : (f : SheetFault) → Fault f ≡ judgedOf (verdict s) → outcome (refusal (statedSheet f)) t ≡ loadingOf s t
-  refused-sheet f e = by-fault (λ f. outcome (refusal (statedSheet f)) t) _ (λ n k m. areLong n m t) _ s f e
+      -- the place after it is within the sheet, and the legs are not too many
+      pub place-fits : at + size x ≤ length s
+      place-fits = omega (arith, places, ap sizes (found .1 .is), length-append (recordBytes x) (recordsBytes (found .0)))
+
+      pub count-fits : count + length (arcsOf x) ≤ maxArcs
+      count-fits = omega (arith, counts, sheet .few)
+
+      -- less is left
+      pub loading-falls : (bytes : ℕ) → bytes ≡ size x → length s - (at + bytes) < length s - at
+      loading-falls bytes so-long = omega (arith, place-fits, size-low x)
+
+      pub loading-next : (bytes legs : ℕ) → bytes ≡ size x → legs ≡ length (arcsOf x) → (t' : SheetTables) → t' ≡ withRecord count x t
+          → Loading s t₀ (at + bytes) (count + legs) t'
+      loading-next bytes legs so-long so-many t' written =
+          record {
+            n = l .n;
+            loadable = l .loadable;
+            done = l .done ++ (x ∷ []);
+            more = found .0;
+            whole = whole-more;
+            place = omega (arith, l .place, so-long, sizes-append (l .done) (x ∷ []), length-append (recordBytes x) []);
+            counted = omega (arith, l .counted, so-many, count-more (l .done) x);
+            holds =
+                written ∙ ap₂ (λ (i : ℕ) (t'' : SheetTables). withRecord i x t'') (l .counted) (l .holds)
+                ∙ loaded-more (l .n) (l .done) t₀ (l .loadable .k) x (found .1 .ok) long-next;
+          }

@@ -16,30 +16,31 @@ use Rattle.sheet.specs.Arcs.{Arc, arcsOf, arcs}
 use Rattle.sheet.specs.Landings.{terminalsOf, terminalsAt, terminalSets}
 use Rattle.sheet.specs.Records.{RecordOk}
 use Rattle.sheet.specs.Reads.{arcs-more, count-more, terminals-more}
-use Rattle.loader.specs.Tables.{Tables, tables, Long, filled, loaded}
+use Rattle.lent_tables.specs.SheetTables.{SheetTables, withArcTables, withLandings, Long, SameLengths, long-fewer}
+use Rattle.loader.specs.Loaded.{filled, loaded}
 use Rattle.sheet.specs.declared.record.Record.{Record}
 use Rattle.sheet.specs.declared.record.Record.the-variants.{OneWay, BothWays, Landing}
 
 -- ---- what one record writes
 
 -- leg i
-abbrev pub withArc : ℕ → Arc → Tables → Tables
-withArc i a t = tables (set (t .starts) i (a .start)) (set (t .ends) i (a .end)) (set (t .weights) i (a .weight)) (t .landings)
+abbrev pub withArc : ℕ → Arc → SheetTables → SheetTables
+withArc i a t = withArcTables (set (t .starts) i (a .start)) (set (t .ends) i (a .end)) (set (t .weights) i (a .weight)) t
 
 -- the legs from leg i on
-abbrev pub withArcs : ℕ → List Arc → Tables → Tables
+abbrev pub withArcs : ℕ → List Arc → SheetTables → SheetTables
 withArcs i [] t = t
 withArcs i (a ∷ list) t = withArcs (i + 1) list (withArc i a t)
 
 -- the station of a landing joins the set of its site
-abbrev pub withLanding : Record → Tables → Tables
+abbrev pub withLanding : Record → SheetTables → SheetTables
 withLanding (OneWay start end weight) t = t
 withLanding (BothWays start end weight) t = t
 withLanding (Landing terminal node) t =
-    tables (t .starts) (t .ends) (t .weights) (set (t .landings) node (union (getD (t .landings) node 0) (single terminal)))
+    withLandings (set (t .landings) node (union (getD (t .landings) node 0) (single terminal))) t
 
 -- a record, where i legs stand in the tables
-abbrev pub withRecord : ℕ → Record → Tables → Tables
+abbrev pub withRecord : ℕ → Record → SheetTables → SheetTables
 withRecord i x t = withLanding x (withArcs i (arcsOf x) t)
 
 -- the site of a landing is in a table of that length, and the station is one of ten
@@ -49,36 +50,24 @@ LandingFits (BothWays start end weight) nodes = Unit {0}
 LandingFits (Landing terminal node) nodes = (node < nodes) × (terminal < maxTerminals)
 
 -- the tables have room for a record after i legs
-pub record Fits (i : ℕ) (x : Record) (t : Tables) : Type 0 where
-  pub starts : i + length (arcsOf x) ≤ length (t .starts)
-  pub ends : i + length (arcsOf x) ≤ length (t .ends)
-  pub weights : i + length (arcsOf x) ≤ length (t .weights)
+pub record Fits (i : ℕ) (x : Record) (t : SheetTables) : Type 0 where
+  pub arcs : Long 0 (i + length (arcsOf x)) t
   pub landings : LandingFits x (length (t .landings))
-
--- tables that are long enough for so many legs are long enough for fewer
-pub long-fewer : (n fewer arcCount : ℕ) (t : Tables) → fewer ≤ arcCount → Long n arcCount t → Long n fewer t
-long-fewer n fewer arcCount t h l =
-    record {
-      starts = omega (arith, l .starts);
-      ends = omega (arith, l .ends);
-      weights = omega (arith, l .weights);
-      landings = l .landings;
-    }
 
 -- ---- what the code writes, table by table
 
-module _ (i : ℕ) {start end weight : ℕ} (x : Record) (t : Tables) (starts ends weights : List ℕ) where
+module _ (i : ℕ) {start end weight : ℕ} (x : Record) (t : SheetTables) (starts ends weights : List ℕ) where
   pub one-way-written : x ≡ OneWay start end weight → starts ≡ set (t .starts) i start → ends ≡ set (t .ends) i end → weights ≡ set (t .weights) i weight
-      → tables starts ends weights (t .landings) ≡ withRecord i x t
-  one-way-written e a b c = (λ j. tables (a j) (b j) (c j) (t .landings)) ∙ ap (λ (y : Record). withRecord i y t) (sym e)
+      → withArcTables starts ends weights t ≡ withRecord i x t
+  one-way-written e a b c = (λ j. withArcTables (a j) (b j) (c j) t) ∙ ap (λ (y : Record). withRecord i y t) (sym e)
 
   pub both-ways-written : x ≡ BothWays start end weight → starts ≡ set (set (t .starts) i start) (i + 1) end → ends ≡ set (set (t .ends) i end) (i + 1) start
-      → weights ≡ set (set (t .weights) i weight) (i + 1) weight → tables starts ends weights (t .landings) ≡ withRecord i x t
-  both-ways-written e a b c = (λ j. tables (a j) (b j) (c j) (t .landings)) ∙ ap (λ (y : Record). withRecord i y t) (sym e)
+      → weights ≡ set (set (t .weights) i weight) (i + 1) weight → withArcTables starts ends weights t ≡ withRecord i x t
+  both-ways-written e a b c = (λ j. withArcTables (a j) (b j) (c j) t) ∙ ap (λ (y : Record). withRecord i y t) (sym e)
 
-pub landing-written : (i : ℕ) {terminal node : ℕ} (x : Record) (t : Tables) (landings : List ℕ) → x ≡ Landing terminal node
-    → landings ≡ set (t .landings) node (union (getD (t .landings) node 0) (single terminal)) → tables (t .starts) (t .ends) (t .weights) landings ≡ withRecord i x t
-landing-written i x t landings e a = ap (tables (t .starts) (t .ends) (t .weights)) a ∙ ap (λ (y : Record). withRecord i y t) (sym e)
+pub landing-written : (i : ℕ) {terminal node : ℕ} (x : Record) (t : SheetTables) (landings : List ℕ) → x ≡ Landing terminal node
+    → landings ≡ set (t .landings) node (union (getD (t .landings) node 0) (single terminal)) → withLandings landings t ≡ withRecord i x t
+landing-written i x t landings e a = ap (λ (l : List ℕ). withLandings l t) a ∙ ap (λ (y : Record). withRecord i y t) (sym e)
 
 -- ---- the tables then hold one record more
 
@@ -95,23 +84,22 @@ column-more f list a old h =
     map-more (b ∷ l) = ap (λ (m : List ℕ). f b ∷ m) (map-more l)
 
 -- one leg
-arc-more : (list : List Arc) (a : Arc) (sets : List ℕ) (n : ℕ) (t : Tables) → Long n (length list + 1) t
+arc-more : (list : List Arc) (a : Arc) (sets : List ℕ) (n : ℕ) (t : SheetTables) → Long n (length list + 1) t
     → withArc (length list) a (filled list sets t) ≡ filled (list ++ (a ∷ [])) sets t
 arc-more list a sets n t l =
-    λ i. record {
-      starts = column-more (λ b. b .start) list a (t .starts) (omega (arith, l .starts)) i;
-      ends = column-more (λ b. b .end) list a (t .ends) (omega (arith, l .ends)) i;
-      weights = column-more (λ b. b .weight) list a (t .weights) (omega (arith, l .weights)) i;
-      landings = over sets (t .landings);
-    }
+    λ i. withArcTables
+    (column-more (λ b. b .start) list a (t .starts) (omega (arith, l .starts)) i)
+    (column-more (λ b. b .end) list a (t .ends) (omega (arith, l .ends)) i)
+    (column-more (λ b. b .weight) list a (t .weights) (omega (arith, l .weights)) i)
+    (filled list sets t)
 
 -- several legs
-arcs-written : (bs list : List Arc) (sets : List ℕ) (n : ℕ) (t : Tables) → Long n (length list + length bs) t
+arcs-written : (bs list : List Arc) (sets : List ℕ) (n : ℕ) (t : SheetTables) → Long n (length list + length bs) t
     → withArcs (length list) bs (filled list sets t) ≡ filled (list ++ bs) sets t
 arcs-written [] list sets n t l = ap (λ (list' : List Arc). filled list' sets t) (sym (append-nil list))
 arcs-written (b ∷ bs) list sets n t l =
     let more : length (list ++ (b ∷ [])) ≡ length list + 1 = length-append list (b ∷ []) in
-    ap₂ (λ (i : ℕ) (t' : Tables). withArcs i bs t') (sym more)
+    ap₂ (λ (i : ℕ) (t' : SheetTables). withArcs i bs t') (sym more)
     (arc-more list b sets n t (long-fewer n (length list + 1) (length list + length (b ∷ bs)) t (omega arith) l))
     ∙ arcs-written bs (list ++ (b ∷ [])) sets n t
     (long-fewer n (length (list ++ (b ∷ [])) + length bs) (length list + length (b ∷ bs)) t (omega (arith, more)) l)
@@ -136,7 +124,7 @@ sets-landing n terminal node records h =
     elsewhere : (v : ℕ) → v ≢ node → terminalsAt records v ≡ terminalsAt (records ++ (Landing terminal node ∷ [])) v
     elsewhere v ne = sym (terminals-more records (Landing terminal node) v ∙ rw (ne-eqb node v (λ e. ne (sym e))) (or-zero-r (terminalsAt records v)))
 
-module _ (n : ℕ) (records : List Record) (t : Tables) where
+module _ (n : ℕ) (records : List Record) (t : SheetTables) where
   link-more : (x : Record) → ((v : ℕ) → terminalsOf x v ≡ empty) → Long n (length (arcs (records ++ (x ∷ [])))) t
       → withArcs (length (arcs records)) (arcsOf x) (loaded n records t) ≡ loaded n (records ++ (x ∷ [])) t
   unfolding loaded
@@ -162,46 +150,27 @@ module _ (n : ℕ) (records : List Record) (t : Tables) where
   loaded-more k (OneWay start end weight) ok l = link-more (OneWay start end weight) (λ v. refl) l
   loaded-more k (BothWays start end weight) ok l = link-more (BothWays start end weight) (λ v. refl) l
   loaded-more k (Landing terminal node) ok l =
-      λ i. record {
-        starts = over (map (λ a. a .start) (sym same i)) (t .starts);
-        ends = over (map (λ a. a .end) (sym same i)) (t .ends);
-        weights = over (map (λ a. a .weight) (sym same i)) (t .weights);
-        landings = landing-more terminal node (ok .1) i;
-      }
+      ap (λ (l : List ℕ). withLandings l (filled (arcs records) (terminalSets n records) t)) (landing-more terminal node (ok .1))
+      ∙ ap (λ (list : List Arc). filled list (terminalSets n (records ++ (Landing terminal node ∷ []))) t) (sym same)
     where
       same : arcs (records ++ (Landing terminal node ∷ [])) ≡ arcs records
       same = arcs-more records (Landing terminal node) ∙ append-nil (arcs records)
 
   -- no record yet: the first n sets are empty, and nothing else is written
-  pub loaded-none : loaded n [] t ≡ tables (t .starts) (t .ends) (t .weights) (replicate n 0 ++ drop n (t .landings))
+  pub loaded-none : loaded n [] t ≡ withLandings (replicate n 0 ++ drop n (t .landings)) t
   unfolding loaded
-  loaded-none =
-      λ i. record {
-        starts = t .starts;
-        ends = t .ends;
-        weights = t .weights;
-        landings = (ap₂ (λ (l : List ℕ) (m : ℕ). l ++ drop m (t .landings)) (constant-values n 0) (length-values (λ v. 0) 0 n)) i;
-      }
+  loaded-none = ap (λ (l : List ℕ). withLandings l t) (ap₂ (λ (l : List ℕ) (m : ℕ). l ++ drop m (t .landings)) (constant-values n 0) (length-values (λ v. 0) 0 n))
 
   -- what stood in the first entries before makes no difference
   pub loaded-anew : loaded n records (loaded n [] t) ≡ loaded n records t
   unfolding loaded
   loaded-anew =
-      λ i. record {
-        starts = over (map (λ a. a .start) (arcs records)) (t .starts);
-        ends = over (map (λ a. a .end) (arcs records)) (t .ends);
-        weights = over (map (λ a. a .weight) (arcs records)) (t .weights);
-        landings = over-over (terminalSets n records) (terminalSets n []) (t .landings) (length-values (terminalsAt []) 0 n ∙ sym (length-values (terminalsAt records) 0 n)) i;
-      }
+      ap (λ (l : List ℕ). withLandings l (filled (arcs records) (terminalSets n records) t))
+      (over-over (terminalSets n records) (terminalSets n []) (t .landings)
+      (length-values (terminalsAt []) 0 n ∙ sym (length-values (terminalsAt records) 0 n)))
 
 -- the tables stay as long as they were
-pub record SameLengths (t' t : Tables) : Type 0 where
-  pub starts : length (t' .starts) ≡ length (t .starts)
-  pub ends : length (t' .ends) ≡ length (t .ends)
-  pub weights : length (t' .weights) ≡ length (t .weights)
-  pub landings : length (t' .landings) ≡ length (t .landings)
-
-pub loaded-lengths : (n : ℕ) (records : List Record) (t : Tables) → Long n (length (arcs records)) t → SameLengths (loaded n records t) t
+pub loaded-lengths : (n : ℕ) (records : List Record) (t : SheetTables) → Long n (length (arcs records)) t → SameLengths (loaded n records t) t
 unfolding loaded
 loaded-lengths n records t l =
     record {

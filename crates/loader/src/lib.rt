@@ -1,11 +1,9 @@
-// The loading of a sheet into the lent tables: leg starts, leg ends, leg prices, landing sets.
-use answer::Refusal;
-use answer::TableFault;
-use sheet::judge::Judged;
-use sheet::judge::judge;
-use sheet::reading::Opening;
-use sheet::reading::Reading;
-use sheet::reading::Step;
+// The loading of a good sheet into the lent tables: leg starts, leg ends, leg prices, landing sets.
+mod good_sheet;
+
+use crate::good_sheet::first_record;
+use sheet::record::END_SIZE;
+use sheet::record::HEAD_SIZE;
 use sheet::record::Record;
 use subset::Subset;
 ghost use mathlib.Core.Path.{_≡_};
@@ -14,41 +12,12 @@ ghost use Prim.Native.Nat.{_+_, _≤_, _<_};
 ghost use lib.ListN.{length, getD, drop, set, replicate};
 ghost use Rattle.limits.specs.Limits.{maxTerminals};
 ghost use Rattle.subset.specs.Sets.{union, single};
-ghost use Rattle.loader.specs.Tables.{tables, longEnough, loadedBy, returned, outcome, loadingOf};
-ghost use Rattle.loader.specs.Loading.{Loadable, Loading};
-ghost use Rattle.loader.specs.Writing.{Fits, withRecord};
+ghost use Rattle.lent_tables.specs.SheetTables.{sheetTables};
+ghost use Rattle.sheet.specs.Records.{headSize};
 ghost use Rattle.sheet.specs.Verdict.{verdict};
-
-// What a loading gives: the sites, stations and number of legs of the sheet that the tables now hold, or the refusal.
-pub enum Loaded {
-    Sheet { n: u16, k: u8, arcs: u16 },
-    Refused(Refusal),
-}
-
-// Whether tables of these lengths are long enough for a sheet with n sites and so many legs.
-pub fn long_enough(
-    n: u16,
-    arcs: u16,
-    starts: usize,
-    ends: usize,
-    weights: usize,
-    landings: usize,
-) -> bool
-    ensures { λ r. ⌜ r ≡ longEnough n arcs starts ends weights landings ⌝ }
-{
-    let arc_count = arcs as usize;
-    if starts < arc_count {
-        return false;
-    }
-    if ends < arc_count {
-        return false;
-    }
-    if weights < arc_count {
-        return false;
-    }
-    let node_count = n as usize;
-    node_count <= landings
-}
+ghost use Rattle.loader.specs.Loaded.{loadedBy};
+ghost use Rattle.loader.specs.Writing.{Fits, withRecord};
+ghost use Rattle.loader.specs.Loading.{Loadable, Loading};
 
 // Leg i.
 fn put_arc(
@@ -108,9 +77,10 @@ fn put_record(
     weights: &mut [u32],
     landings: &mut [u16],
 )
-    requires { ⌜ Fits at item (tables (now starts) (now ends) (now weights) (now landings)) ⌝ }
-    ensures { λ _. ⌜ tables (now (starts .exit)) (now (ends .exit)) (now (weights .exit)) (now (landings .exit))
-        ≡ withRecord at item (tables (now (starts .entry)) (now (ends .entry)) (now (weights .entry)) (now (landings .entry))) ⌝ }
+    requires { ⌜ (let t = sheetTables (now starts) (now ends) (now weights) (now landings) in Fits at item t) ⌝ }
+    ensures { λ _. ⌜ (let before = sheetTables (now (starts .entry)) (now (ends .entry)) (now (weights .entry)) (now (landings .entry)) in
+        let after = sheetTables (now (starts .exit)) (now (ends .exit)) (now (weights .exit)) (now (landings .exit)) in
+        after ≡ withRecord at item before) ⌝ }
 {
     let i = at as usize;
     match item {
@@ -138,84 +108,44 @@ fn clear_landings(landings: &mut [u16], n: usize)
     }
 }
 
-// Record after record, from a state that the reading has come to.
+// Record after record: the legs in order, and the stations of each site. The records are read without a test, since the sheet is good.
 fn load_records(
     sheet: &[u8],
-    first: Reading,
     starts: &mut [u16],
     ends: &mut [u16],
     weights: &mut [u32],
     landings: &mut [u16],
 )
-    requires { ⌜ Loading (now sheet) (tables (now starts) (now ends) (now weights) (now landings)) first (tables (now starts) (now ends) (now weights) (now landings)) ⌝ }
-    ensures { λ _. ⌜ tables (now (starts .exit)) (now (ends .exit)) (now (weights .exit)) (now (landings .exit)) ≡ loadedBy (verdict (now (sheet .entry))) (tables (now (starts .entry)) (now (ends .entry)) (now (weights .entry)) (now (landings .entry))) ⌝ }
+    requires { ⌜ (let t = sheetTables (now starts) (now ends) (now weights) (now landings) in Loading (now sheet) t headSize 0 t) ⌝ }
+    ensures { λ _. ⌜ (let before = sheetTables (now (starts .entry)) (now (ends .entry)) (now (weights .entry)) (now (landings .entry)) in
+        let after = sheetTables (now (starts .exit)) (now (ends .exit)) (now (weights .exit)) (now (landings .exit)) in
+        after ≡ loadedBy (verdict (now (sheet .entry))) before) ⌝ }
 {
-    let mut state = first;
-    loop {
-        let step = state.step(sheet);
-        match step {
-            Step::Next(item, next) => {
-                put_record(item, state.arcs, starts, ends, weights, landings);
-                state = next;
-            }
-            Step::End => {
-                return;
-            }
-            Step::Fault(_) => {
-                return;
-            }
-        }
+    let end = sheet.len() - END_SIZE;
+    let mut at: usize = HEAD_SIZE;
+    let mut arcs: u16 = 0;
+    while at < end {
+        let item = first_record(&sheet[at..]);
+        put_record(item, arcs, starts, ends, weights, landings);
+        at += item.size();
+        arcs += item.arc_count();
     }
 }
 
-// The tables of a good sheet, where they are long enough.
+// The tables of a good sheet with n sites, where they are long enough.
 pub fn load(
     sheet: &[u8],
+    n: u16,
     starts: &mut [u16],
     ends: &mut [u16],
     weights: &mut [u32],
     landings: &mut [u16],
 )
-    requires { ⌜ Loadable (now sheet) (tables (now starts) (now ends) (now weights) (now landings)) ⌝ }
-    ensures { λ _. ⌜ tables (now (starts .exit)) (now (ends .exit)) (now (weights .exit)) (now (landings .exit)) ≡ loadedBy (verdict (now (sheet .entry))) (tables (now (starts .entry)) (now (ends .entry)) (now (weights .entry)) (now (landings .entry))) ⌝ }
+    requires { ⌜ (let t = sheetTables (now starts) (now ends) (now weights) (now landings) in Loadable (now sheet) n t) ⌝ }
+    ensures { λ _. ⌜ (let before = sheetTables (now (starts .entry)) (now (ends .entry)) (now (weights .entry)) (now (landings .entry)) in
+        let after = sheetTables (now (starts .exit)) (now (ends .exit)) (now (weights .exit)) (now (landings .exit)) in
+        after ≡ loadedBy (verdict (now (sheet .entry))) before) ⌝ }
 {
-    let opening = Reading::begin(sheet);
-    match opening {
-        Opening::Head(first) => {
-            let n = first.n;
-            clear_landings(landings, n as usize);
-            load_records(sheet, first, starts, ends, weights, landings);
-        }
-        Opening::Fault(_) => {}
-    }
-}
-
-// The sheet is judged whole, then the lengths are tested, and only then are the tables written.
-pub fn load_sheet(
-    sheet: &[u8],
-    starts: &mut [u16],
-    ends: &mut [u16],
-    weights: &mut [u32],
-    landings: &mut [u16],
-) -> Loaded
-    ensures { λ r. ⌜ outcome (returned r) (tables (now (starts .exit)) (now (ends .exit)) (now (weights .exit)) (now (landings .exit))) ≡ loadingOf (now (sheet .entry)) (tables (now (starts .entry)) (now (ends .entry)) (now (weights .entry)) (now (landings .entry))) ⌝ }
-{
-    let judged = judge(sheet);
-    match judged {
-        Judged::Fault(fault) => Loaded::Refused(Refusal::Sheet(fault)),
-        Judged::Good { n, k, arcs } => {
-            if long_enough(
-                n,
-                arcs,
-                starts.len(),
-                ends.len(),
-                weights.len(),
-                landings.len(),
-            ) {
-                load(sheet, starts, ends, weights, landings);
-                return Loaded::Sheet { n, k, arcs };
-            }
-            Loaded::Refused(Refusal::Tables(TableFault::ShortTables))
-        }
-    }
+    clear_landings(landings, n as usize);
+    load_records(sheet, starts, ends, weights, landings);
 }

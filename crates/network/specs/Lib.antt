@@ -4,5 +4,7 @@ pub mod Network
 pub mod Loaded
 -- what the graph of a good sheet has
 pub mod OfSheets
+-- tables that hold a sheet
+pub mod HeldSheet
 -- the worked sheets
 pub mod Worked

@@ -18,9 +18,11 @@ use Rattle.sheet.specs.Landings.{terminalsAt}
 use Rattle.sheet.specs.Records.{RecordOk}
 use Rattle.sheet.specs.Heard.{landing-has}
 use Rattle.sheet.specs.declared.record.Record.{Record}
-use Rattle.loader.specs.Tables.{Tables, loaded}
+use Rattle.lent_tables.specs.SheetTables.{SheetTables}
+use Rattle.loader.specs.Loaded.{loaded}
 use Rattle.loader.specs.Held.{terminals-held}
-use Rattle.network.specs.Network.{graphOf, graphHeld}
+use Rattle.graph.specs.HeldGraph.{graphIn}
+use Rattle.network.specs.Network.{graphOf}
 
 -- no station has a landing at a site that is not on the sheet
 pub terminalsAt-none : (n k : ℕ) (records : List Record) → Every (RecordOk n k) records → (v : ℕ) → n ≤ v → terminalsAt records v ≡ 0
@@ -28,7 +30,7 @@ terminalsAt-none n k records each v h =
     let l = terminals-lt 0 (terminalsAt records v) (λ i s. let b = every-mem (RecordOk n k) each (landing-has records v i s) .1 in omega arith) in
     omega arith
 
-module _ (n k : ℕ) (records : List Record) (t : Tables) where
+module _ (n k : ℕ) (records : List Record) (t : SheetTables) where
   -- a leg table holds that value of each leg, and 0 past the legs
   column-loaded : (f : Arc → ℕ) (old : List ℕ) (e : ℕ)
       → getD (take (length (arcs records)) (over (map f (arcs records)) old)) e (f (arc 0 0 0)) ≡ f (arcAt records e)
@@ -51,7 +53,7 @@ module _ (n k : ℕ) (records : List Record) (t : Tables) where
           ap terminalsIn (List·getD-eq-default (take n sets) 0 (omega (arith, length-take n sets))) ∙ sym (terminalsAt-none n k records each v (omega arith))
 
   -- equal values at each number are equal functions, and graphs with equal parts are equal
-  pub loaded-graph : k ≤ maxTerminals → Every (RecordOk n k) records → graphHeld n k (length (arcs records)) (loaded n records t) ≡ graphOf n k records
+  pub loaded-graph : k ≤ maxTerminals → Every (RecordOk n k) records → graphIn n k (length (arcs records)) (loaded n records t) ≡ graphOf n k records
   unfolding loaded
   loaded-graph b each = λ i. record {
     nodes = n;

@@ -1,15 +1,13 @@
--- The graph that a sheet describes, by its sites, stations and records, and the graph that the lent tables hold, by their entries.
+-- The graph that a sheet describes, by its sites, stations and records. (`graphIn` of crate graph is the graph that lent tables hold.)
 -- Assumes nothing.
 use Prim.Native.Nat.{ℕ}
 use mathlib.Core.Bool.{true}
 use mathlib.Core.List.{List}
 use lib.ListN.{length}
 use Rattle.graph.specs.Graph.{Graph}
-use Rattle.graph.specs.InTables.{graphIn}
 use Rattle.sheet.specs.Arcs.{arcs, arcAt}
 use Rattle.sheet.specs.Landings.{terminalsAt}
 use Rattle.sheet.specs.declared.record.Record.{Record}
-use Rattle.loader.specs.Tables.{Tables}
 
 -- the graph of a sheet with n sites and k stations; no site is charged, and every site may be a root
 abbrev pub graphOf : (n k : ℕ) → List Record → Graph
@@ -24,7 +22,3 @@ graphOf n k records = record {
   charge = λ v. 0;
   mayRoot = λ v. true;
 }
-
--- the graph that loaded tables hold for n sites, k stations and m legs
-abbrev pub graphHeld : (n k m : ℕ) → Tables → Graph
-graphHeld n k m t = graphIn n k m (t .starts) (t .ends) (t .weights) (t .landings)

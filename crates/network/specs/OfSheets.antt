@@ -1,19 +1,18 @@
 -- What the graph of a good sheet has: its arcs lead between its nodes, none from a node to itself, and their weights are in range, so that
--- totals have a limit; its landings are those of the records, and each terminal has one. Its directed subtrees are document 004's. What it
--- has, the graph that the loaded tables hold has.
+-- totals have a limit; its landings are those of the records, and each terminal has one. Its directed subtrees are document 004's.
 -- Assumes nothing.
 use Prim.Native.Nat.{ℕ, _-_, _*_, _≤_, _<_}
-use mathlib.Core.Path.{_≡_, refl, sym, subst}
+use mathlib.Core.Path.{_≡_, refl, sym}
 use mathlib.Core.Logic.{_≢_, _↔_}
 use mathlib.Core.Option.{some}
 use mathlib.Core.List.{List, [], _∷_, List·Memᴰ}
 use native.Mathlib.Omega.{arith}
 use lib.ListN.{length}
-use Rattle.limits.specs.Limits.{maxNodes, maxTerminals, maxWeight, noCost}
+use Rattle.limits.specs.Limits.{maxNodes, maxWeight, noCost}
 use Rattle.lists.specs.Every.{Every, every-append, every-mem, every-at, every-imp}
 use Rattle.lists.specs.Listed.{Distinct}
 use Rattle.lists.specs.Sums.{sumBy}
-use Rattle.graph.specs.Graph.{Graph, Landing, Sound}
+use Rattle.graph.specs.Graph.{Landing, Sound}
 use Rattle.graph.specs.Subtrees.{Subtree, total}
 use Rattle.graph.specs.LeastTotals.{leastTotal, Room}
 use Rattle.graph.specs.Theorems.{least-total-limit, subtree-iff-one-path}
@@ -26,9 +25,7 @@ use Rattle.sheet.specs.Landings.{Heard}
 use Rattle.sheet.specs.Heard.{landing-has, has-landing}
 use Rattle.sheet.specs.declared.record.Record.{Record}
 use Rattle.sheet.specs.declared.record.Record.the-variants.{OneWay, BothWays, Landing as LandingRecord}
-use Rattle.loader.specs.Tables.{Tables, loaded}
-use Rattle.network.specs.Network.{graphOf, graphHeld}
-use Rattle.network.specs.Loaded.{loaded-graph}
+use Rattle.network.specs.Network.{graphOf}
 
 -- ---- the arcs
 
@@ -103,10 +100,3 @@ module _ (n k : ℕ) (records : List Record) where
   sheet-heard each every i l =
       let h = every i l in
       (h .0, every-mem (RecordOk n k) each (h .1) .1, record-landing i (h .0) (h .1))
-
-  -- ---- the graph that loaded tables hold
-
-  -- what the graph of the sheet has, the graph that the loaded tables hold has
-  pub as-loaded : (t : Tables) → k ≤ maxTerminals → Every (RecordOk n k) records
-      → (P : Graph → Type 0) → P (graphOf n k records) → P (graphHeld n k (length (arcs records)) (loaded n records t))
-  as-loaded t b each P h = subst P (sym (loaded-graph n k records t b each)) h

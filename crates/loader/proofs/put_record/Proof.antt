@@ -3,7 +3,7 @@
 use mathlib.Core.Path.{subst}
 use native.Mathlib.Omega.{arith}
 use denote.Ref.{now}
-use Rattle.loader.specs.Tables.{tables}
+use Rattle.lent_tables.specs.SheetTables.{sheetTables}
 use Rattle.loader.specs.Writing.{Fits, one-way-written, both-ways-written, landing-written}
 use Rattle.sheet.specs.declared.record.Record.{Record}
 use borrow.Author.Needs.{needs}
@@ -16,9 +16,9 @@ enum-known-item c = search needs
 put-arc-requires : tie.Need-put-arc-requires
 put-arc-requires c κs =
     let a = c .before .before .before .before .before .before .before .before .before .before .args in
-    let t = tables (now (a .starts)) (now (a .ends)) (now (a .weights)) (now (a .landings)) in
+    let t = sheetTables (now (a .starts)) (now (a .ends)) (now (a .weights)) (now (a .landings)) in
     let f = subst (λ (x : Record). Fits (a .at) x t) (c .before .before .before .before .item .given .1) (c .before .before .before .before .before .before .before .before .before .before .pre) in
-    (omega (arith, f .starts), omega (arith, f .ends), omega (arith, f .weights))
+    (omega (arith, f .arcs .starts), omega (arith, f .arcs .ends), omega (arith, f .arcs .weights))
 
 enum-known-item-2 : tie.Need-enum-known-item-2
 enum-known-item-2 c = search needs
@@ -26,9 +26,9 @@ enum-known-item-2 c = search needs
 put-both-requires : tie.Need-put-both-requires
 put-both-requires c κs =
     let a = c .before .before .before .before .before .before .before .before .before .before .args in
-    let t = tables (now (a .starts)) (now (a .ends)) (now (a .weights)) (now (a .landings)) in
+    let t = sheetTables (now (a .starts)) (now (a .ends)) (now (a .weights)) (now (a .landings)) in
     let f = subst (λ (x : Record). Fits (a .at) x t) (c .before .before .before .before .item2 .given .1) (c .before .before .before .before .before .before .before .before .before .before .pre) in
-    (omega (arith, f .starts), omega (arith, f .ends), omega (arith, f .weights))
+    (omega (arith, f .arcs .starts), omega (arith, f .arcs .ends), omega (arith, f .arcs .weights))
 
 enum-known-item-3 : tie.Need-enum-known-item-3
 enum-known-item-3 c = search needs
@@ -36,7 +36,7 @@ enum-known-item-3 c = search needs
 put-landing-requires : tie.Need-put-landing-requires
 put-landing-requires c κs =
     let a = c .before .before .before .before .before .before .before .before .args in
-    let t = tables (now (a .starts)) (now (a .ends)) (now (a .weights)) (now (a .landings)) in
+    let t = sheetTables (now (a .starts)) (now (a .ends)) (now (a .weights)) (now (a .landings)) in
     let f = subst (λ (x : Record). Fits (a .at) x t) (c .before .before .item3 .given .1) (c .before .before .before .before .before .before .before .before .pre) in
     f .landings
 
@@ -52,7 +52,7 @@ same-length-3 c = search needs
 returns : tie.Need-returns
 returns c =
     let a = c .before .before .before .before .before .before .before .before .before .before .before .before .before .before .before .before .before .args in
-    let t = tables (now (a .starts)) (now (a .ends)) (now (a .weights)) (now (a .landings)) in
+    let t = sheetTables (now (a .starts)) (now (a .ends)) (now (a .weights)) (now (a .landings)) in
     let e = c .before .before .before .before .before .before .put-arc .ensures in
     one-way-written (a .at) (a .item) t _ _ _ (c .before .before .before .before .before .before .before .before .before .before .before .item .given .1) (e .0) (e .1 .0) (e .1 .1)
 
@@ -68,7 +68,7 @@ same-length-6 c = search needs
 returns-2 : tie.Need-returns-2
 returns-2 c =
     let a = c .before .before .before .before .before .before .before .before .before .before .before .before .before .before .before .before .before .args in
-    let t = tables (now (a .starts)) (now (a .ends)) (now (a .weights)) (now (a .landings)) in
+    let t = sheetTables (now (a .starts)) (now (a .ends)) (now (a .weights)) (now (a .landings)) in
     let e = c .before .before .before .before .before .before .put-both .ensures in
     both-ways-written (a .at) (a .item) t _ _ _ (c .before .before .before .before .before .before .before .before .before .before .before .item2 .given .1) (e .0) (e .1 .0) (e .1 .1)
 
@@ -78,7 +78,7 @@ same-length-7 c = search needs
 returns-3 : tie.Need-returns-3
 returns-3 c =
     let a = c .before .before .before .before .before .before .before .before .before .before .before .args in
-    let t = tables (now (a .starts)) (now (a .ends)) (now (a .weights)) (now (a .landings)) in
+    let t = sheetTables (now (a .starts)) (now (a .ends)) (now (a .weights)) (now (a .landings)) in
     landing-written (a .at) (a .item) t _ (c .before .before .before .before .before .item3 .given .1) (c .before .before .put-landing .ensures)
 
 pub put-record-spec : {M : Type 1} → statement M
