@@ -10,7 +10,7 @@ use lib.ListN.{length}
 use Rattle.limits.specs.Limits.{minNodes, maxNodes, minTerminals, maxTerminals, noCost}
 use Rattle.limits.specs.Refusals.{badHead, noSuchSite, noSuchStation, shortTables}
 use Rattle.answer.specs.Stated.{Stated, plan, cell, sender, noSender, refused, ofSheet, ofTables}
-use Rattle.table.specs.Cells.{cellIn}
+use Rattle.cost_table.specs.Cells.{cellIn}
 
 -- n sites and k stations are what a sheet may have; else 3, "n or k out of range"
 abbrev pub inRange : (n k : ℕ) → Bool

@@ -14,8 +14,8 @@ use Rattle.limits.specs.Limits.{minNodes, maxNodes, minTerminals, maxTerminals,
 use Rattle.limits.specs.Refusals.{badHead, noSuchSite, noSuchStation, shortTables}
 use Rattle.lists.specs.Tests.{both-true}
 use Rattle.answer.specs.Stated.{Stated, cell, sender, noSender, refused, ofSheet, ofTables}
-use Rattle.table.specs.Cells.{cellIn}
-use Rattle.table.specs.Cheapest.{columnIn, LowestTo}
+use Rattle.cost_table.specs.Cells.{cellIn}
+use Rattle.cost_table.specs.Cheapest.{columnIn, LowestTo}
 use Rattle.enquirer.specs.Questions.{inRange, cellAnswer, BestSender, NoneFinite, Sends, SenderAnswer}
 
 -- ---- the numbers

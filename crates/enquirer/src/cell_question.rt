@@ -6,14 +6,15 @@ use answer::Enquiry;
 use answer::Refusal;
 use answer::SheetFault;
 use answer::TableFault;
+use cost_table::cell;
+use limits::Cost;
 use subset::Subset;
-use table::cell;
 ghost use mathlib.Core.Path.{_≡_};
 ghost use Rattle.answer.specs.Stated.{statedEnquiry};
 ghost use Rattle.enquirer.specs.Questions.{cellAnswer};
 
 // The cell of site v and the set w.
-pub fn cell_in(cells: &[u32], n: u32, k: u32, v: u32, w: u32) -> Enquiry
+pub fn cell_in(cells: &[Cost], n: u32, k: u32, v: u32, w: u32) -> Enquiry
     ensures { λ r. ⌜ statedEnquiry r ≡ cellAnswer (now (cells .entry)) n k v w ⌝ }
 {
     if !in_range(n, k) {

@@ -8,20 +8,21 @@ mod sender_question;
 use crate::cell_question::cell_in;
 use crate::sender_question::best_sender_in;
 use answer::Enquiry;
+use limits::Cost;
 ghost use mathlib.Core.Path.{_≡_};
 ghost use Rattle.answer.specs.Stated.{statedEnquiry};
 ghost use Rattle.enquirer.specs.Questions.{cellAnswer, SenderAnswer};
 
 // A finished cost table for n sites and k stations.
 pub struct Enquirer<'a> {
-    pub cells: &'a [u32],
+    pub cells: &'a [Cost],
     pub n: u32,
     pub k: u32,
 }
 
 impl<'a> Enquirer<'a> {
     // The enquirer over these cells.
-    pub fn new(cells: &'a [u32], n: u32, k: u32) -> Enquirer<'a>
+    pub fn new(cells: &'a [Cost], n: u32, k: u32) -> Enquirer<'a>
         ensures { λ r. ⌜ (r .cells ≡ cells .entry) × (r .n ≡ n) × (r .k ≡ k) ⌝ }
     {
         Enquirer { cells, n, k }
@@ -43,14 +44,14 @@ impl<'a> Enquirer<'a> {
 }
 
 // The cell for site v and the subset w, of a table for n sites and k stations.
-pub fn cell(cells: &[u32], n: u32, k: u32, v: u32, w: u32) -> Enquiry
+pub fn cell(cells: &[Cost], n: u32, k: u32, v: u32, w: u32) -> Enquiry
     ensures { λ r. ⌜ statedEnquiry r ≡ cellAnswer (now (cells .entry)) n k v w ⌝ }
 {
     Enquirer::new(cells, n, k).cell(v, w)
 }
 
 // The best sender of the subset w, of a table for n sites and k stations.
-pub fn best_sender(cells: &[u32], n: u32, k: u32, w: u32) -> Enquiry
+pub fn best_sender(cells: &[Cost], n: u32, k: u32, w: u32) -> Enquiry
     ensures { λ r. ⌜ SenderAnswer (now (cells .entry)) n k w (statedEnquiry r) ⌝ }
 {
     Enquirer::new(cells, n, k).best_sender(w)

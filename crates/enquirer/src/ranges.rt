@@ -1,5 +1,5 @@
 // What both questions are tested with: whether n and k are in range (3), the number of subsets (5), and whether the table is long enough (11).
-use table::sets_of;
+use subset::sets_of;
 ghost use mathlib.Core.Path.{_≡_};
 ghost use Prim.Native.Nat.{_*_, _^_, _≤_};
 ghost use lib.Dec.{leb};

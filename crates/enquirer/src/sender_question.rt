@@ -6,14 +6,15 @@ use answer::Enquiry;
 use answer::Refusal;
 use answer::SheetFault;
 use answer::TableFault;
+use cost_table::cell;
+use cost_table::cheapest::cheapest_node;
+use limits::Cost;
 use subset::Subset;
-use table::cell;
-use table::cheapest::cheapest_node;
 ghost use Rattle.answer.specs.Stated.{statedEnquiry};
 ghost use Rattle.enquirer.specs.Questions.{SenderAnswer};
 
 // A site whose cell of the set w is least and finite, or none.
-pub fn best_sender_in(cells: &[u32], n: u32, k: u32, w: u32) -> Enquiry
+pub fn best_sender_in(cells: &[Cost], n: u32, k: u32, w: u32) -> Enquiry
     ensures { λ r. ⌜ SenderAnswer (now (cells .entry)) n k w (statedEnquiry r) ⌝ }
 {
     if !in_range(n, k) {

@@ -23,7 +23,7 @@ use Rattle.graph.specs.Layout.{isDone, fits, splits}
 use Rattle.graph.specs.laws.LayoutRule.{facts-done}
 use Rattle.graph.specs.Theorems.{rule-nothing, rule-arc, rule-split, step-applies}
 use Rattle.graph.specs.Theorems.{following-falls, splitting-falls, following-leads, splitting-leads}
-use Rattle.table.specs.Cells.{cellIn}
+use Rattle.cost_table.specs.Cells.{cellIn}
 use Rattle.layout.specs.Plan.{cellsFor, laid, Finished, Placed, Stored}
 
 -- ---- the measure

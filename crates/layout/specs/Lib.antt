@@ -8,4 +8,4 @@ pub mod Roots
 pub mod Tests
 pub mod Laying
 pub mod Walking
-pub mod InTables
+pub mod FollowSplit

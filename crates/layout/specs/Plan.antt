@@ -10,11 +10,12 @@ use lib.ListN.{length}
 use lib.Seq.{sets}
 use Rattle.limits.specs.Limits.{maxTerminals, noCost}
 use Rattle.lists.specs.Find.{first}
+use Rattle.lent_tables.specs.SheetTables.{SheetTables, Long}
 use Rattle.graph.specs.Graph.{Graph, Sound}
-use Rattle.graph.specs.InTables.{graphIn}
+use Rattle.graph.specs.HeldGraph.{graphIn}
 use Rattle.graph.specs.LeastTotals.{IsCostTable, Room}
 use Rattle.graph.specs.Layout.{isDone, fits, layout}
-use Rattle.table.specs.Cells.{cellIn}
+use Rattle.cost_table.specs.Cells.{cellIn}
 
 -- the cells of a graph's nodes and sets in a list
 abbrev pub cellsFor : Graph → List ℕ → ℕ → ℕ → ℕ
@@ -31,15 +32,12 @@ pub record Finished (G : Graph) (cells : List ℕ) : Type 0 where
   pub table : IsCostTable G (cellsFor G cells) noCost
 
 -- what the laying out of a plan rests on: tables that are long enough hold a graph and its finished cost table
-pub record Ready (n k m : ℕ) (starts ends weights landings cells : List ℕ) : Type 0 where
+pub record Ready (n k m : ℕ) (t : SheetTables) (cells : List ℕ) : Type 0 where
   pub some-terminal : 1 ≤ k
   pub terminals : k ≤ maxTerminals
-  pub long-starts : m ≤ length starts
-  pub long-ends : m ≤ length ends
-  pub long-weights : m ≤ length weights
-  pub long-landings : n ≤ length landings
+  pub long : Long n m t
   pub long-cells : n * 2 ^ k ≤ length cells
-  pub finished : Finished (graphIn n k m starts ends weights landings) cells
+  pub finished : Finished (graphIn n k m t) cells
 
 -- v is a node and w a set with a finite cell, and their arcs have room between the place `at` and the end of a table
 pub record Placed (G : Graph) (cells : List ℕ) (v w at size : ℕ) : Type 0 where

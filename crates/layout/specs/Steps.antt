@@ -10,9 +10,10 @@ use lib.Dec.{eqb, ltb}
 use lib.ListN.{length, getD}
 use Rattle.limits.specs.Limits.{maxTerminals, noCost}
 use Rattle.subset.specs.Sets.{isPart, terminalsIn}
-use Rattle.graph.specs.InTables.{graphIn}
+use Rattle.lent_tables.specs.SheetTables.{SheetTables, Long, arcsAlone}
+use Rattle.graph.specs.HeldGraph.{graphIn}
 use Rattle.graph.specs.Layout.{fits, splits}
-use Rattle.table.specs.Cells.{cellIn}
+use Rattle.cost_table.specs.Cells.{cellIn}
 use Rattle.layout.specs.declared.steps.Found.{Found}
 use Rattle.layout.specs.declared.steps.Found.the-variants.{At, Nothing}
 
@@ -25,12 +26,12 @@ abbrev pub valuesFit : (start weight far v cost : ℕ) → Bool
 valuesFit start weight far v cost = eqb start v && (ltb far noCost && eqb (weight + far) cost)
 
 -- arc e fits at v with w
-abbrev pub fitsIn : (k m : ℕ) (starts ends weights cells : List ℕ) → (v w e : ℕ) → Bool
-fitsIn k m starts ends weights cells = fits (graphIn 0 k m starts ends weights []) (cellIn cells (2 ^ k)) noCost
+abbrev pub fitsIn : (k m : ℕ) → SheetTables → (cells : List ℕ) → (v w e : ℕ) → Bool
+fitsIn k m t cells = fits (graphIn 0 k m t) (cellIn cells (2 ^ k)) noCost
 
 -- y splits w at v
 abbrev pub splitsIn : (k : ℕ) → List ℕ → (v w y : ℕ) → Bool
-splitsIn k cells = splits (graphIn 0 k 0 [] [] [] []) (cellIn cells (2 ^ k))
+splitsIn k cells = splits (graphIn 0 k 0 (arcsAlone [] [] [])) (cellIn cells (2 ^ k))
 
 -- what a search gives, by the number found
 abbrev pub foundAs : Option ℕ → Found
@@ -38,10 +39,8 @@ foundAs (some x) = At x
 foundAs none = Nothing
 
 -- the tables hold m arcs, and the cells of v and of each arc's end with w
-pub record ArcsHeld (k m : ℕ) (starts ends weights cells : List ℕ) (v w : ℕ) : Type 0 where
+pub record ArcsHeld (k m : ℕ) (t : SheetTables) (cells : List ℕ) (v w : ℕ) : Type 0 where
   pub terminals : k ≤ maxTerminals
-  pub long-starts : m ≤ length starts
-  pub long-ends : m ≤ length ends
-  pub long-weights : m ≤ length weights
+  pub long : Long 0 m t
   pub here : v * 2 ^ k + w < length cells
-  pub there : (e : ℕ) → e < m → getD ends e 0 * 2 ^ k + w < length cells
+  pub there : (e : ℕ) → e < m → getD (t .ends) e 0 * 2 ^ k + w < length cells

@@ -11,7 +11,7 @@ use native.Mathlib.Nat.{add-zero}
 use borrow.Author.Tests.{eq-eqb, ne-eqb, lt-ltb, le-ltb}
 use lib.Count.{ones}
 use lib.Dec.{T, eqb, eqb→eq, ltb}
-use lib.ListN.{length, getD, take}
+use lib.ListN.{getD, take}
 use lib.Seq.{getD-take}
 use Rattle.limits.specs.Limits.{noCost}
 use Rattle.lists.specs.Tests.{true-fact, false-not-fact, same-tests, eq-fact, and-left, and-right, and-both, or-cases, or-right, and-fails, and-passes}
@@ -21,10 +21,11 @@ use Rattle.subset.specs.Sets.{single, has, Part, isPart, rest, terminalsIn}
 use Rattle.subset.specs.Parts.{isPart-part, part-has, part-le, single-part, rest-difference}
 use Rattle.subset.specs.Terminals.{has-lt}
 use Rattle.subset.specs.Sizes.{ones-single, one-terminal}
-use Rattle.graph.specs.InTables.{graphIn, landings-in}
+use Rattle.lent_tables.specs.SheetTables.{SheetTables}
+use Rattle.graph.specs.HeldGraph.{graphIn, landings-in}
 use Rattle.graph.specs.Layout.{isDone}
 use Rattle.graph.specs.laws.LayoutRule.{done-facts, facts-done}
-use Rattle.table.specs.Cells.{cellIn}
+use Rattle.cost_table.specs.Cells.{cellIn}
 use Rattle.layout.specs.Steps.{doneAt, valuesFit, fitsIn, splitsIn, foundAs}
 use Rattle.layout.specs.declared.steps.Found.the-variants.{At, Nothing}
 
@@ -44,32 +45,32 @@ module _ (entry w : ℕ) where
   done-one n e = done-filled n ∙ and-passes (eqb (ones w) 1) (isPart w (terminalsIn entry)) (eq-eqb (ones w) 1 e)
 
 -- the test of the graph that the tables hold is the test of the node's landing entry
-module _ (n k m : ℕ) (starts ends weights landings : List ℕ) (v w : ℕ) (on : v < n) (small : w < 2 ^ k) where
-  pub done-in : isDone (graphIn n k m starts ends weights landings) v w ≡ doneAt (getD landings v 0) w
-  done-in = same-tests (isDone (graphIn n k m starts ends weights landings) v w) (doneAt (getD landings v 0) w)
-      (λ t. there (done-facts (graphIn n k m starts ends weights landings) v w t))
-      (λ t. facts-done (graphIn n k m starts ends weights landings) v w
-      (back (or-cases (eqb w 0) (eqb (ones w) 1 && isPart w (terminalsIn (getD landings v 0))) t)))
+module _ (n k m : ℕ) (t : SheetTables) (v w : ℕ) (on : v < n) (small : w < 2 ^ k) where
+  pub done-in : isDone (graphIn n k m t) v w ≡ doneAt (getD (t .landings) v 0) w
+  done-in = same-tests (isDone (graphIn n k m t) v w) (doneAt (getD (t .landings) v 0) w)
+      (λ done. there (done-facts (graphIn n k m t) v w done))
+      (λ done. facts-done (graphIn n k m t) v w (back (or-cases (eqb w 0) (eqb (ones w) 1 && isPart w here) done)))
     where
       here : ℕ
-      here = terminalsIn (getD landings v 0)
+      here = terminalsIn (getD (t .landings) v 0)
 
-      same : terminalsIn (getD (take n landings) v 0) ≡ here
-      same = landings-in n k m starts ends weights landings v on
+      same : terminalsIn (getD (take n (t .landings)) v 0) ≡ here
+      same = landings-in n k m t v on
 
-      there : (w ≡ 0) ⊎ ((i : ℕ) × (i < k) × (w ≡ single i) × T (has (terminalsIn (getD (take n landings) v 0)) i)) → T (doneAt (getD landings v 0) w)
-      there (inl e) = true-fact (done-empty (getD landings v 0) w e)
+      there : (w ≡ 0) ⊎ ((i : ℕ) × (i < k) × (w ≡ single i) × T (has (terminalsIn (getD (take n (t .landings)) v 0)) i))
+          → T (doneAt (getD (t .landings) v 0) w)
+      there (inl e) = true-fact (done-empty (getD (t .landings) v 0) w e)
       there (inr (i, l, e, h)) =
           let part : Part (single i) here = single-part i here (subst (λ (x : ℕ). T (has x i)) same h) in
           or-right (eqb w 0) (eqb (ones w) 1 && isPart w here) (and-both (eqb (ones w) 1) (isPart w here)
           (eq-fact (ap ones e ∙ ones-single i)) (eq-fact (subst (λ (x : ℕ). Part x here) (sym e) part)))
 
       back : T (eqb w 0) ⊎ T (eqb (ones w) 1 && isPart w here)
-          → (w ≡ 0) ⊎ ((i : ℕ) × (i < k) × (w ≡ single i) × T (has (terminalsIn (getD (take n landings) v 0)) i))
-      back (inl t) = inl (eqb→eq w 0 t)
-      back (inr t) =
-          let (i, e, h) = one-terminal w (eqb→eq (ones w) 1 (and-left (eqb (ones w) 1) (isPart w here) t)) in
-          let part : Part w here = eqb→eq _ w (and-right (eqb (ones w) 1) (isPart w here) t) in
+          → (w ≡ 0) ⊎ ((i : ℕ) × (i < k) × (w ≡ single i) × T (has (terminalsIn (getD (take n (t .landings)) v 0)) i))
+      back (inl empty) = inl (eqb→eq w 0 empty)
+      back (inr one) =
+          let (i, e, h) = one-terminal w (eqb→eq (ones w) 1 (and-left (eqb (ones w) 1) (isPart w here) one)) in
+          let part : Part w here = eqb→eq _ w (and-right (eqb (ones w) 1) (isPart w here) one) in
           inr (i, has-lt k w i small h, e, subst (λ (x : ℕ). T (has x i)) (sym same) (part-has w here part i h))
 
 -- ---- an arc fits
@@ -87,20 +88,26 @@ module _ (start weight far v cost : ℕ) where
       ∙ and-passes (ltb far noCost) (eqb (weight + far) cost) (lt-ltb far noCost finite)
 
 -- the values that the tables hold of an arc
-module _ (k m : ℕ) (starts ends weights cells : List ℕ) (v w : ℕ) where
-  fits-in : (e cost far : ℕ) → e < m → cost ≡ cellIn cells (2 ^ k) v w → far ≡ cellIn cells (2 ^ k) (getD ends e 0) w
-      → fitsIn k m starts ends weights cells v w e ≡ valuesFit (getD starts e 0) (getD weights e 0) far v cost
+module _ (k m : ℕ) (t : SheetTables) (cells : List ℕ) (v w : ℕ) where
+  fits-in : (e cost far : ℕ) → e < m → cost ≡ cellIn cells (2 ^ k) v w → far ≡ cellIn cells (2 ^ k) (getD (t .ends) e 0) w
+      → fitsIn k m t cells v w e ≡ valuesFit (getD (t .starts) e 0) (getD (t .weights) e 0) far v cost
   fits-in e cost far l here there =
-      ap₂ (λ (s x : ℕ). eqb s v && (ltb x noCost && eqb (getD (take m weights) e 0 + 0 + x) (cellIn cells (2 ^ k) v w))) (getD-take m starts e 0 l)
-      (ap (λ (u : ℕ). cellIn cells (2 ^ k) u w) (getD-take m ends e 0 l) ∙ sym there)
-      ∙ ap₂ (λ (x c : ℕ). eqb (getD starts e 0) v && (ltb far noCost && eqb (x + far) c)) (add-zero _ ∙ getD-take m weights e 0 l) (sym here)
+      ap₂ (λ (s x : ℕ). eqb s v && (ltb x noCost && eqb (getD (take m (t .weights)) e 0 + 0 + x) (cellIn cells (2 ^ k) v w))) (getD-take m (t .starts) e 0 l)
+      (ap (λ (u : ℕ). cellIn cells (2 ^ k) u w) (getD-take m (t .ends) e 0 l) ∙ sym there)
+      ∙ ap₂ (λ (x c : ℕ). eqb (getD (t .starts) e 0) v && (ltb far noCost && eqb (x + far) c)) (add-zero _ ∙ getD-take m (t .weights) e 0 l) (sym here)
 
   -- r is the test of them, and b its answer
-  pub fits-at : (e cost far : ℕ) (r b : Bool) → e < m → cost ≡ cellIn cells (2 ^ k) v w → far ≡ cellIn cells (2 ^ k) (getD ends e 0) w
-      → r ≡ valuesFit (getD starts e 0) (getD weights e 0) far v cost → r ≡ b → fitsIn k m starts ends weights cells v w e ≡ b
+  pub fits-at : (e cost far : ℕ) (r b : Bool) → e < m → cost ≡ cellIn cells (2 ^ k) v w → far ≡ cellIn cells (2 ^ k) (getD (t .ends) e 0) w
+      → r ≡ valuesFit (getD (t .starts) e 0) (getD (t .weights) e 0) far v cost → r ≡ b → fitsIn k m t cells v w e ≡ b
   fits-at e cost far r b l here there test answer = fits-in e cost far l here there ∙ sym test ∙ answer
 
 -- ---- a part splits
+
+-- "none" and another cell do not make a finite one
+pub none-no-split : (y w part other cost : ℕ) → isPart y w ≡ true → cost < noCost → (part ≡ noCost) ⊎ (other ≡ noCost)
+    → (isPart y w && eqb (part + other) cost) ≡ false
+none-no-split y w part other cost p finite (inl e) = and-passes (isPart y w) (eqb (part + other) cost) p ∙ ne-eqb (part + other) cost (λ q. omega arith)
+none-no-split y w part other cost p finite (inr e) = and-passes (isPart y w) (eqb (part + other) cost) p ∙ ne-eqb (part + other) cost (λ q. omega arith)
 
 module _ (k : ℕ) (cells : List ℕ) (v w : ℕ) where
   -- r is the test of a part and of the cells that the table holds, and b its answer
@@ -115,8 +122,8 @@ module _ (k : ℕ) (cells : List ℕ) (v w : ℕ) where
   none-empty = below-more (λ j. T (not (splitsIn k cells v w j))) 0 (λ j l. absurd (omega arith)) tt
 
 -- the cell of a part, and of the rest, lies in the table where that of the set does
-pub part-in : (size y w v length : ℕ) → isPart y w ≡ true → v * size + w < length → v * size + y < length
-part-in size y w v length p l = omega (arith, part-le y w (isPart-part y w p))
+pub part-in : (size y w v len : ℕ) → isPart y w ≡ true → v * size + w < len → v * size + y < len
+part-in size y w v len p l = omega (arith, part-le y w (isPart-part y w p))
 
 pub rest-of : (y w z : ℕ) → isPart y w ≡ true → z ≡ rest w y → z ≡ w - y
 rest-of y w z p e = e ∙ rest-difference w y (isPart-part y w p)

@@ -3,6 +3,7 @@
 use crate::steps::Found;
 use crate::steps::splitting_part;
 use crate::walk::walk;
+use limits::Cost;
 use subset::Subset;
 ghost use mathlib.Core.Path.{_≡_};
 ghost use Prim.Native.Nat.{_-_, _^_, _≤_, _<_};
@@ -10,8 +11,9 @@ ghost use lib.ListN.{length};
 ghost use Rattle.limits.specs.Limits.{noCost};
 ghost use Rattle.lists.specs.Over.{over};
 ghost use Rattle.subset.specs.Sets.{full};
-ghost use Rattle.graph.specs.InTables.{graphIn};
-ghost use Rattle.table.specs.Cells.{cellIn};
+ghost use Rattle.lent_tables.specs.SheetTables.{sheetTables};
+ghost use Rattle.graph.specs.HeldGraph.{graphIn};
+ghost use Rattle.cost_table.specs.Cells.{cellIn};
 ghost use Rattle.layout.specs.Plan.{laid, Ready, Placed, Unfollowed, Stored};
 
 // The legs of site v with the set w are listed in `out` from the place `at` on; the place after them.
@@ -21,7 +23,7 @@ fn follow(
     ends: &[u16],
     weights: &[u32],
     landings: &[u16],
-    cells: &[u32],
+    cells: &[Cost],
     n: u16,
     k: u8,
     arcs: u16,
@@ -30,11 +32,10 @@ fn follow(
     out: &mut [u16],
     at: usize,
 ) -> usize
-    requires { ⌜ Ready n k arcs (now starts) (now ends) (now weights) (now landings) (now cells) ⌝ }
-    requires { ⌜ Placed (graphIn n k arcs (now starts) (now ends) (now weights) (now landings)) (now cells) v (w .0) at (length (now out)) ⌝ }
-    ensures { λ r. ⌜ Stored
-        (laid (graphIn n k arcs (now (starts .entry)) (now (ends .entry)) (now (weights .entry)) (now (landings .entry))) (now (cells .entry)) v (w .0))
-        at r (now (out .entry)) (now (out .exit)) ⌝ }
+    requires { ⌜ (let t = sheetTables (now starts) (now ends) (now weights) (now landings) in
+        (Ready n k arcs t (now cells) × Placed (graphIn n k arcs t) (now cells) v (w .0) at (length (now out)))) ⌝ }
+    ensures { λ r. ⌜ (let t = sheetTables (now (starts .entry)) (now (ends .entry)) (now (weights .entry)) (now (landings .entry)) in
+        (Stored (laid (graphIn n k arcs t) (now (cells .entry)) v (w .0)) at r (now (out .entry)) (now (out .exit)))) ⌝ }
 {
     let stop = walk(
         starts,
@@ -75,7 +76,7 @@ fn split(
     ends: &[u16],
     weights: &[u32],
     landings: &[u16],
-    cells: &[u32],
+    cells: &[Cost],
     n: u16,
     k: u8,
     arcs: u16,
@@ -84,12 +85,11 @@ fn split(
     out: &mut [u16],
     at: usize,
 ) -> usize
-    requires { ⌜ Ready n k arcs (now starts) (now ends) (now weights) (now landings) (now cells) ⌝ }
-    requires { ⌜ Placed (graphIn n k arcs (now starts) (now ends) (now weights) (now landings)) (now cells) v (w .0) at (length (now out)) ⌝ }
-    requires { ⌜ Unfollowed (graphIn n k arcs (now starts) (now ends) (now weights) (now landings)) (now cells) v (w .0) ⌝ }
-    ensures { λ r. ⌜ Stored
-        (laid (graphIn n k arcs (now (starts .entry)) (now (ends .entry)) (now (weights .entry)) (now (landings .entry))) (now (cells .entry)) v (w .0))
-        at r (now (out .entry)) (now (out .exit)) ⌝ }
+    requires { ⌜ (let t = sheetTables (now starts) (now ends) (now weights) (now landings) in
+        (Ready n k arcs t (now cells) × Placed (graphIn n k arcs t) (now cells) v (w .0) at (length (now out))
+        × Unfollowed (graphIn n k arcs t) (now cells) v (w .0))) ⌝ }
+    ensures { λ r. ⌜ (let t = sheetTables (now (starts .entry)) (now (ends .entry)) (now (weights .entry)) (now (landings .entry)) in
+        (Stored (laid (graphIn n k arcs t) (now (cells .entry)) v (w .0)) at r (now (out .entry)) (now (out .exit)))) ⌝ }
 {
     let found = splitting_part(cells, k, v, w);
     match found {
@@ -135,21 +135,19 @@ pub fn lay_out(
     ends: &[u16],
     weights: &[u32],
     landings: &[u16],
-    cells: &[u32],
+    cells: &[Cost],
     n: u16,
     k: u8,
     arcs: u16,
     root: u16,
     out: &mut [u16],
 ) -> usize
-    requires { ⌜ Ready n k arcs (now starts) (now ends) (now weights) (now landings) (now cells) ⌝ }
-    requires { ⌜ (root < n) × (cellIn (now cells) (2 ^ k) root (full k) < noCost) × (n - 1 ≤ length (now out)) ⌝ }
-    ensures { λ _. ⌜ now (out .exit)
-        ≡ over (laid (graphIn n k arcs (now (starts .entry)) (now (ends .entry)) (now (weights .entry)) (now (landings .entry)))
-        (now (cells .entry)) root (full k)) (now (out .entry)) ⌝ }
-    ensures { λ r. ⌜ r
-        ≡ length (laid (graphIn n k arcs (now (starts .entry)) (now (ends .entry)) (now (weights .entry)) (now (landings .entry)))
-        (now (cells .entry)) root (full k)) ⌝ }
+    requires { ⌜ (let t = sheetTables (now starts) (now ends) (now weights) (now landings) in
+        (Ready n k arcs t (now cells)
+        × ((root < n) × (cellIn (now cells) (2 ^ k) root (full k) < noCost) × (n - 1 ≤ length (now out))))) ⌝ }
+    ensures { λ r. ⌜ (let t = sheetTables (now (starts .entry)) (now (ends .entry)) (now (weights .entry)) (now (landings .entry)) in
+        ((now (out .exit) ≡ over (laid (graphIn n k arcs t) (now (cells .entry)) root (full k)) (now (out .entry)))
+        × (r ≡ length (laid (graphIn n k arcs t) (now (cells .entry)) root (full k))))) ⌝ }
 {
     follow(
         starts,

@@ -3,9 +3,11 @@
 use crate::steps::Found;
 use crate::steps::fitting_arc;
 use crate::steps::is_done;
+use limits::Cost;
 use subset::Subset;
 ghost use lib.ListN.{length};
-ghost use Rattle.graph.specs.InTables.{graphIn};
+ghost use Rattle.lent_tables.specs.SheetTables.{sheetTables};
+ghost use Rattle.graph.specs.HeldGraph.{graphIn};
 ghost use Rattle.layout.specs.Plan.{Ready, Placed};
 ghost use Rattle.layout.specs.Walk.{Stopped};
 
@@ -23,7 +25,7 @@ pub fn walk(
     ends: &[u16],
     weights: &[u32],
     landings: &[u16],
-    cells: &[u32],
+    cells: &[Cost],
     n: u16,
     k: u8,
     arcs: u16,
@@ -32,11 +34,10 @@ pub fn walk(
     out: &mut [u16],
     at: usize,
 ) -> Stop
-    requires { ⌜ Ready n k arcs (now starts) (now ends) (now weights) (now landings) (now cells) ⌝ }
-    requires { ⌜ Placed (graphIn n k arcs (now starts) (now ends) (now weights) (now landings)) (now cells) v (w .0) at (length (now out)) ⌝ }
-    ensures { λ r. ⌜ Stopped
-        (graphIn n k arcs (now (starts .entry)) (now (ends .entry)) (now (weights .entry)) (now (landings .entry))) (now (cells .entry)) v (w .0)
-        at (now (out .entry)) (now (out .exit)) (r .node) (r .place) (r .done) ⌝ }
+    requires { ⌜ (let t = sheetTables (now starts) (now ends) (now weights) (now landings) in
+        (Ready n k arcs t (now cells) × Placed (graphIn n k arcs t) (now cells) v (w .0) at (length (now out)))) ⌝ }
+    ensures { λ r. ⌜ (let t = sheetTables (now (starts .entry)) (now (ends .entry)) (now (weights .entry)) (now (landings .entry)) in
+        (Stopped (graphIn n k arcs t) (now (cells .entry)) v (w .0) at (now (out .entry)) (now (out .exit)) (r .node) (r .place) (r .done))) ⌝ }
 {
     let mut node = v;
     let mut place = at;

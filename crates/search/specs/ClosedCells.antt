@@ -9,13 +9,14 @@ use native.Mathlib.Decide.{ℕ-discrete}
 use native.Mathlib.Nat.{zero-add}
 use lib.ListN.{length}
 use Rattle.lists.specs.Numbers.{numbers, length-values, getD-values}
-use Rattle.table.specs.Cells.{cellIn}
-use Rattle.table.specs.Rows.{place-lt, place-of}
+use Rattle.lent_tables.specs.SheetTables.{SheetTables}
+use Rattle.cost_table.specs.Cells.{cellIn}
+use Rattle.cost_table.specs.Rows.{place-lt, place-of}
 use Rattle.search.specs.WorkingNone.{workingNone}
 use Rattle.search.specs.Ranges.{Ordered, OneSize, Outside, Inside, shorter, inside-or-out}
 use Rattle.search.specs.Filling.{ArcFrom, ClosedOver, ClosedSets}
-use Rattle.search.specs.Column.{entry, ArcTables, AllLow, Settled}
-use Rattle.search.specs.InTable.{ColumnPut}
+use Rattle.search.specs.Column.{entry, startAt, endAt, weightAt, ArcTables, AllLow, Settled}
+use Rattle.search.specs.RowsColumns.{ColumnPut}
 
 -- ---- cells and places
 
@@ -29,38 +30,38 @@ pub low-cells : (n size : ℕ) (cells : List ℕ) → length cells ≡ n * size 
 low-cells n size cells whole low v w on small = low (v * size + w) (place-lt v n size w (length cells) on small (omega arith))
 
 -- the cells of the nodes are all that counts
-pub closed-same : {n m : ℕ} {starts ends weights : List ℕ} (A : ArcTables n m starts ends weights) (c c' d d' : ℕ → ℕ)
+pub closed-same : {n m : ℕ} {t : SheetTables} (A : ArcTables n m t) (c c' d d' : ℕ → ℕ)
     → ((v : ℕ) → v < n → c v ≡ c' v) → ((v : ℕ) → v < n → d v ≡ d' v)
-    → ClosedOver n m (entry starts) (entry ends) (entry weights) c d → ClosedOver n m (entry starts) (entry ends) (entry weights) c' d'
-closed-same {n} {m} {starts} {ends} {weights} A c c' d d' sc sd C = record {
+    → ClosedOver n m (startAt t) (endAt t) (weightAt t) c d → ClosedOver n m (startAt t) (endAt t) (weightAt t) c' d'
+closed-same {n} {m} {t} A c c' d d' sc sd C = record {
   low = λ v on. omega (arith, C .low v on, sc v on, sd v on);
   from = λ v on. go v on (C .from v on);
-  closed = λ e l. omega (arith, C .closed e l, sd (entry starts e) (A .start-lt e l), sd (entry ends e) (A .end-lt e l));
+  closed = λ e l. omega (arith, C .closed e l, sd (startAt t e) (A .start-lt e l), sd (endAt t e) (A .end-lt e l));
 }
   where
-    go : (v : ℕ) → v < n → (d v ≡ c v) ⊎ ArcFrom m (entry starts) (entry ends) (entry weights) d v
-        → (d' v ≡ c' v) ⊎ ArcFrom m (entry starts) (entry ends) (entry weights) d' v
+    go : (v : ℕ) → v < n → (d v ≡ c v) ⊎ ArcFrom m (startAt t) (endAt t) (weightAt t) d v
+        → (d' v ≡ c' v) ⊎ ArcFrom m (startAt t) (endAt t) (weightAt t) d' v
     go v on (inl e) = inl (sym (sd v on) ∙ e ∙ sc v on)
     go v on (inr h) = inr (record {
       arc = h .arc;
       on-graph = h .on-graph;
       from = h .from;
-      gives = omega (arith, h .gives, sd v on, sd (entry ends (h .arc)) (A .end-lt (h .arc) (h .on-graph)));
+      gives = omega (arith, h .gives, sd v on, sd (endAt t (h .arc)) (A .end-lt (h .arc) (h .on-graph)));
     })
 
 -- ---- one set
 
-pub record SetClosed (n m size : ℕ) (starts ends weights : List ℕ) (w : ℕ) (before after : List ℕ) : Type 0 where
+pub record SetClosed (n m size : ℕ) (t : SheetTables) (w : ℕ) (before after : List ℕ) : Type 0 where
   pub same-length : length after ≡ length before
   pub others : (u y : ℕ) → y < size → y ≢ w → cellIn after size u y ≡ cellIn before size u y
-  pub over : ClosedOver n m (entry starts) (entry ends) (entry weights) (λ v. cellIn before size v w) (λ v. cellIn after size v w)
+  pub over : ClosedOver n m (startAt t) (endAt t) (weightAt t) (λ v. cellIn before size v w) (λ v. cellIn after size v w)
 
 -- the column is taken, settled and put back
-pub set-closed : {n m size w : ℕ} {starts ends weights before after column settled : List ℕ} → ArcTables n m starts ends weights
-    → column ≡ map (λ v. cellIn before size v w) (numbers 0 n) → Settled m starts ends weights column settled
+pub set-closed : {n m size w : ℕ} {t : SheetTables} {before after column settled : List ℕ} → ArcTables n m t
+    → column ≡ map (λ v. cellIn before size v w) (numbers 0 n) → Settled m t column settled
     → ColumnPut size w settled (length settled) before after
-    → SetClosed n m size starts ends weights w before after
-set-closed {n} {m} {size} {w} {starts} {ends} {weights} {before} {after} {column} {settled} A taken S P = record {
+    → SetClosed n m size t w before after
+set-closed {n} {m} {size} {w} {t} {before} {after} {column} {settled} A taken S P = record {
   same-length = P .same-length;
   others = P .others;
   over =
@@ -78,8 +79,8 @@ module _ (n size w : ℕ) (before : List ℕ) {column : List ℕ} (taken : colum
   taken-length : length column ≡ n
   taken-length = ap length taken ∙ length-values (λ u. cellIn before size u w) 0 n
 
-  pub taken-arcs : {m : ℕ} {starts ends weights : List ℕ} → ArcTables n m starts ends weights → ArcTables (length column) m starts ends weights
-  taken-arcs {m} {starts} {ends} {weights} A = subst (λ (x : ℕ). ArcTables x m starts ends weights) (sym taken-length) A
+  pub taken-arcs : {m : ℕ} {t : SheetTables} → ArcTables n m t → ArcTables (length column) m t
+  taken-arcs {m} {t} A = subst (λ (x : ℕ). ArcTables x m t) (sym taken-length) A
 
   pub taken-low : w < size → length before ≡ n * size → AllLow before → AllLow column
   taken-low small whole low v l =
@@ -92,25 +93,25 @@ module _ (n size w : ℕ) (before : List ℕ) {column : List ℕ} (taken : colum
         low-cells n size before whole low v w on small,
       )
 
-  pub settled-fits : {m : ℕ} {starts ends weights settled : List ℕ} → Settled m starts ends weights column settled → length before ≡ n * size
+  pub settled-fits : {m : ℕ} {t : SheetTables} {settled : List ℕ} → Settled m t column settled → length before ≡ n * size
       → length settled * size ≤ length before
   settled-fits S whole = omega (arith, ap (λ (x : ℕ). x * size) (S .same-length ∙ taken-length))
 
 -- what is asked of the cells and of a column with an entry for each node
-pub set-ready : {n m size w : ℕ} {starts ends weights : List ℕ} (cells column : List ℕ) → length column ≡ n → w < size
+pub set-ready : {n m size w : ℕ} {t : SheetTables} (cells column : List ℕ) → length column ≡ n → w < size
     → AllLow cells × (length cells ≡ n * size)
-    → ArcTables n m starts ends weights → (w < size) × (length cells ≡ length column * size) × ArcTables (length column) m starts ends weights × AllLow cells
-set-ready {n} {m} {size} {w} {starts} {ends} {weights} cells column so-many small (low, whole) A =
-    (small, whole ∙ ap (λ (x : ℕ). x * size) (sym so-many), subst (λ (x : ℕ). ArcTables x m starts ends weights) (sym so-many) A, low)
+    → ArcTables n m t → (w < size) × (length cells ≡ length column * size) × ArcTables (length column) m t × AllLow cells
+set-ready {n} {m} {size} {w} {t} cells column so-many small (low, whole) A =
+    (small, whole ∙ ap (λ (x : ℕ). x * size) (sym so-many), subst (λ (x : ℕ). ArcTables x m t) (sym so-many) A, low)
 
 -- ---- the sets at a range of positions
 
-pub record SetsClosed (n m size : ℕ) (starts ends weights : List ℕ) (at : ℕ → ℕ) (first last : ℕ) (before after : List ℕ) : Type 0 where
+pub record SetsClosed (n m size : ℕ) (t : SheetTables) (at : ℕ → ℕ) (first last : ℕ) (before after : List ℕ) : Type 0 where
   pub same-length : length after ≡ length before
-  pub sets : ClosedSets n m size (entry starts) (entry ends) (entry weights) at first last (cellIn before size) (cellIn after size)
+  pub sets : ClosedSets n m size (startAt t) (endAt t) (weightAt t) at first last (cellIn before size) (cellIn after size)
 
-module _ {n m size : ℕ} {starts ends weights : List ℕ} {at : ℕ → ℕ} {first : ℕ} {before : List ℕ} where
-  pub sets-none : SetsClosed n m size starts ends weights at first first before before
+module _ {n m size : ℕ} {t : SheetTables} {at : ℕ → ℕ} {first : ℕ} {before : List ℕ} where
+  pub sets-none : SetsClosed n m size t at first first before before
   sets-none = record {
     same-length = refl;
     sets = record { others = λ v w on small out. refl; each = λ i f g small. absurd (omega arith) };
@@ -119,7 +120,7 @@ module _ {n m size : ℕ} {starts ends weights : List ℕ} {at : ℕ → ℕ} {f
   module _ (count : ℕ) (O : Ordered at count) {last : ℕ} (R : OneSize at count first last) where
     -- no cell has risen
     pub sets-low : {p : ℕ} {mid : List ℕ} → size ≤ count → first ≤ p → p ≤ last → length before ≡ n * size
-        → SetsClosed n m size starts ends weights at first p before mid
+        → SetsClosed n m size t at first p before mid
         → AllLow before → AllLow mid
     sets-low {p} {mid} few f le whole S low = cells-low n size mid (S .same-length ∙ whole) each
       where
@@ -132,8 +133,8 @@ module _ {n m size : ℕ} {starts ends weights : List ℕ} {at : ℕ → ℕ} {f
                 omega (arith, down, ap (cellIn mid size v) (i .here), ap (cellIn before size v) (i .here), low-cells n size before whole low v w on small)
             go (inr out) = omega (arith, S .sets .others v w on small out, low-cells n size before whole low v w on small)
 
-    module _ {p : ℕ} {mid : List ℕ} (f : first ≤ p) (g : p < last) (S : SetsClosed n m size starts ends weights at first p before mid) where
-      passed-over : size ≤ at p → SetsClosed n m size starts ends weights at first (p + 1) before mid
+    module _ {p : ℕ} {mid : List ℕ} (f : first ≤ p) (g : p < last) (S : SetsClosed n m size t at first p before mid) where
+      passed-over : size ≤ at p → SetsClosed n m size t at first (p + 1) before mid
       passed-over large = record {
         same-length = S .same-length;
         sets = record {
@@ -146,8 +147,8 @@ module _ {n m size : ℕ} {starts ends weights : List ℕ} {at : ℕ → ℕ} {f
           before-p i b small (yes e) = absurd (omega (arith, ap at e))
           before-p i b small (no ne) = omega arith
 
-      closed-here : (after : List ℕ) → ArcTables n m starts ends weights → at p < size → SetClosed n m size starts ends weights (at p) mid after
-          → SetsClosed n m size starts ends weights at first (p + 1) before after
+      closed-here : (after : List ℕ) → ArcTables n m t → at p < size → SetClosed n m size t (at p) mid after
+          → SetsClosed n m size t at first (p + 1) before after
       closed-here after A small C = record {
         same-length = C .same-length ∙ S .same-length;
         sets = record {
@@ -157,16 +158,16 @@ module _ {n m size : ℕ} {starts ends weights : List ℕ} {at : ℕ → ℕ} {f
         };
       }
         where
-          here : ClosedOver n m (entry starts) (entry ends) (entry weights) (λ v. cellIn before size v (at p)) (λ v. cellIn after size v (at p))
+          here : ClosedOver n m (startAt t) (endAt t) (weightAt t) (λ v. cellIn before size v (at p)) (λ v. cellIn after size v (at p))
           here =
               closed-same A (λ v. cellIn mid size v (at p)) (λ v. cellIn before size v (at p)) (λ v. cellIn after size v (at p))
               (λ v. cellIn after size v (at p))
               (λ v on. S .sets .others v (at p) on small (λ i a b e. O .apart i p b (omega (arith, R .bound)) e)) (λ v on. refl) (C .over)
 
           by : (i : ℕ) → first ≤ i → i < p + 1 → at i < size → Dec (i ≡ p)
-              → ClosedOver n m (entry starts) (entry ends) (entry weights) (λ v. cellIn before size v (at i)) (λ v. cellIn after size v (at i))
+              → ClosedOver n m (startAt t) (endAt t) (weightAt t) (λ v. cellIn before size v (at i)) (λ v. cellIn after size v (at i))
           by i a b li (yes e) =
-              subst (λ (j : ℕ). ClosedOver n m (entry starts) (entry ends) (entry weights) (λ v. cellIn before size v (at j)) (λ v. cellIn after size v (at j)))
+              subst (λ (j : ℕ). ClosedOver n m (startAt t) (endAt t) (weightAt t) (λ v. cellIn before size v (at j)) (λ v. cellIn after size v (at j)))
               (sym e) here
           by i a b li (no ne) =
               closed-same A (λ v. cellIn before size v (at i)) (λ v. cellIn before size v (at i)) (λ v. cellIn mid size v (at i))
@@ -178,19 +179,19 @@ module _ {n m size : ℕ} {starts ends weights : List ℕ} {at : ℕ → ℕ} {f
       pub sets-ready : size ≤ count → length before ≡ n * size → AllLow before → AllLow mid × (length mid ≡ n * size)
       sets-ready few whole low = (sets-low few f (omega arith) whole S low, S .same-length ∙ whole)
 
-      pub sets-over : {w : ℕ} {after : List ℕ} → w ≡ at p → size ≤ w → after ≡ mid → SetsClosed n m size starts ends weights at first (p + 1) before after
-      sets-over e large same = subst (SetsClosed n m size starts ends weights at first (p + 1) before) (sym same) (passed-over (omega arith))
+      pub sets-over : {w : ℕ} {after : List ℕ} → w ≡ at p → size ≤ w → after ≡ mid → SetsClosed n m size t at first (p + 1) before after
+      sets-over e large same = subst (SetsClosed n m size t at first (p + 1) before) (sym same) (passed-over (omega arith))
 
-      pub sets-next : {w len : ℕ} {closed after : List ℕ} → ArcTables n m starts ends weights → w ≡ at p → w < size → len ≡ n
-          → SetClosed len m size starts ends weights w mid closed → after ≡ closed → SetsClosed n m size starts ends weights at first (p + 1) before after
+      pub sets-next : {w len : ℕ} {closed after : List ℕ} → ArcTables n m t → w ≡ at p → w < size → len ≡ n
+          → SetClosed len m size t w mid closed → after ≡ closed → SetsClosed n m size t at first (p + 1) before after
       sets-next {w} {len} {closed} A e small so-many C same =
-          subst (SetsClosed n m size starts ends weights at first (p + 1) before) (sym same)
+          subst (SetsClosed n m size t at first (p + 1) before) (sym same)
           (closed-here closed A (omega arith)
-          (subst (λ (x : ℕ). SetClosed n m size starts ends weights x mid closed) e
-          (subst (λ (x : ℕ). SetClosed x m size starts ends weights w mid closed) so-many C)))
+          (subst (λ (x : ℕ). SetClosed n m size t x mid closed) e
+          (subst (λ (x : ℕ). SetClosed x m size t w mid closed) so-many C)))
 
-pub sets-all : {n m size first last p : ℕ} {starts ends weights before after : List ℕ} {at : ℕ → ℕ}
-    → SetsClosed n m size starts ends weights at first p before after
-    → p ≡ last → SetsClosed n m size starts ends weights at first last before after
-sets-all {n} {m} {size} {first} {last} {p} {starts} {ends} {weights} {before} {after} {at} S e =
-    subst (λ (x : ℕ). SetsClosed n m size starts ends weights at first x before after) e S
+pub sets-all : {n m size first last p : ℕ} {t : SheetTables} {before after : List ℕ} {at : ℕ → ℕ}
+    → SetsClosed n m size t at first p before after
+    → p ≡ last → SetsClosed n m size t at first last before after
+sets-all {n} {m} {size} {first} {last} {p} {t} {before} {after} {at} S e =
+    subst (λ (x : ℕ). SetsClosed n m size t at first x before after) e S

@@ -9,9 +9,10 @@ use native.Mathlib.Omega.{arith}
 use native.Mathlib.Decide.{ℕ-discrete}
 use lib.ListN.{length, getD, set, length-set}
 use lib.Seq.{getD-set-same, getD-set-other, set-getD}
-use Rattle.limits.specs.Limits.{maxNodes, maxWeight}
+use Rattle.limits.specs.Limits.{maxNodes, maxWeight, noCost}
 use Rattle.lists.specs.Below.{below-more}
 use Rattle.lists.specs.Sums.{sumTo, sumTo-lt}
+use Rattle.lent_tables.specs.SheetTables.{SheetTables, Long}
 use Rattle.search.specs.Filling.{ArcFrom, ClosedOver}
 use Rattle.search.specs.WorkingNone.{workingNone}
 
@@ -19,15 +20,24 @@ use Rattle.search.specs.WorkingNone.{workingNone}
 abbrev pub entry : List ℕ → ℕ → ℕ
 entry l i = getD l i 0
 
+-- the start, the end and the weight of an arc, as tables hold them
+module _ (t : SheetTables) where
+  abbrev pub startAt : ℕ → ℕ
+  startAt e = entry (t .starts) e
+
+  abbrev pub endAt : ℕ → ℕ
+  endAt e = entry (t .ends) e
+
+  abbrev pub weightAt : ℕ → ℕ
+  weightAt e = entry (t .weights) e
+
 -- m arcs between n nodes, in tables that are long enough
-pub record ArcTables (n m : ℕ) (starts ends weights : List ℕ) : Type 0 where
+pub record ArcTables (n m : ℕ) (t : SheetTables) : Type 0 where
   pub few : n ≤ maxNodes
-  pub starts-long : m ≤ length starts
-  pub ends-long : m ≤ length ends
-  pub weights-long : m ≤ length weights
-  pub start-lt : (e : ℕ) → e < m → entry starts e < n
-  pub end-lt : (e : ℕ) → e < m → entry ends e < n
-  pub weight-le : (e : ℕ) → e < m → entry weights e ≤ maxWeight
+  pub long : Long 0 m t
+  pub start-lt : (e : ℕ) → e < m → startAt t e < n
+  pub end-lt : (e : ℕ) → e < m → endAt t e < n
+  pub weight-le : (e : ℕ) → e < m → weightAt t e ≤ maxWeight
 
 -- no entry is above "none"
 abbrev pub AllLow : List ℕ → Type 0
@@ -38,25 +48,25 @@ abbrev pub taken : (backward : Bool) → (m i : ℕ) → ℕ
 taken false m i = i
 taken true m i = m - 1 - i
 
-module _ (m : ℕ) (starts ends weights : List ℕ) where
+module _ (m : ℕ) (t : SheetTables) where
   -- a pass over the arcs `nth 0` to `nth (i - 1)`, from `before`; whether it lowered a cell
   pub record Passed (nth : ℕ → ℕ) (before after : List ℕ) (i : ℕ) (lowered : Bool) : Type 0 where
     pub same-length : length after ≡ length before
     pub low : (v : ℕ) → entry after v ≤ entry before v
-    pub from : (v : ℕ) → (entry after v ≡ entry before v) ⊎ ArcFrom m (entry starts) (entry ends) (entry weights) (entry after) v
+    pub from : (v : ℕ) → (entry after v ≡ entry before v) ⊎ ArcFrom m (startAt t) (endAt t) (weightAt t) (entry after) v
     pub unchanged : lowered ≡ false
-        → (after ≡ before) × ((d : ℕ) → d < i → entry after (entry starts (nth d)) ≤ entry weights (nth d) + entry after (entry ends (nth d)))
+        → (after ≡ before) × ((d : ℕ) → d < i → entry after (startAt t (nth d)) ≤ weightAt t (nth d) + entry after (endAt t (nth d)))
     pub falls : lowered ≡ true → sumTo (length before) (entry after) < sumTo (length before) (entry before)
 
   -- passes, until one lowers nothing
   pub record Settled (before after : List ℕ) : Type 0 where
     pub same-length : length after ≡ length before
-    pub over : (n : ℕ) → ClosedOver n m (entry starts) (entry ends) (entry weights) (entry before) (entry after)
+    pub over : (n : ℕ) → ClosedOver n m (startAt t) (endAt t) (weightAt t) (entry before) (entry after)
 
 -- ---- one pass
 
-module _ {m : ℕ} {starts ends weights : List ℕ} {nth : ℕ → ℕ} {before : List ℕ} where
-  pub passed-none : Passed m starts ends weights nth before before 0 false
+module _ {m : ℕ} {t : SheetTables} {nth : ℕ → ℕ} {before : List ℕ} where
+  pub passed-none : Passed m t nth before before 0 false
   passed-none = record {
     same-length = refl;
     low = λ v. omega arith;
@@ -65,94 +75,94 @@ module _ {m : ℕ} {starts ends weights : List ℕ} {nth : ℕ → ℕ} {before 
     falls = λ q. absurd (false≢true q);
   }
 
-  module _ {mid : List ℕ} {i e : ℕ} {lowered : Bool} (A : ArcTables (length before) m starts ends weights) (l : e < m) (next : e ≡ nth i)
-      (P : Passed m starts ends weights nth before mid i lowered) where
+  module _ {mid : List ℕ} {i e : ℕ} {lowered : Bool} (A : ArcTables (length before) m t) (l : e < m) (next : e ≡ nth i)
+      (P : Passed m t nth before mid i lowered) where
     -- the arc gives less: the cell of its start is lowered
-    passed-lower : (x : ℕ) → x ≡ entry mid (entry ends e) + entry weights e → x < entry mid (entry starts e)
-        → Passed m starts ends weights nth before (set mid (entry starts e) x) (i + 1) true
+    passed-lower : (x : ℕ) → x ≡ entry mid (endAt t e) + weightAt t e → x < entry mid (startAt t e)
+        → Passed m t nth before (set mid (startAt t e) x) (i + 1) true
     passed-lower x is less = record {
-      same-length = length-set mid (entry starts e) x ∙ P .same-length;
+      same-length = length-set mid (startAt t e) x ∙ P .same-length;
       low = λ v. omega (arith, le v, P .low v);
-      from = λ v. by-node v (ℕ-discrete v (entry starts e));
+      from = λ v. by-node v (ℕ-discrete v (startAt t e));
       unchanged = λ q. absurd (true≢false q);
       falls = λ _. fall lowered refl;
     }
       where
         a : ℕ
-        a = entry starts e
+        a = startAt t e
 
-        on : entry starts e < length mid
+        on : startAt t e < length mid
         on = omega (arith, A .start-lt e l, P .same-length)
 
-        here : entry (set mid (entry starts e) x) (entry starts e) ≡ x
-        here = getD-set-same mid (entry starts e) x 0 on
+        here : entry (set mid (startAt t e) x) (startAt t e) ≡ x
+        here = getD-set-same mid (startAt t e) x 0 on
 
-        there : (v : ℕ) → v ≢ entry starts e → entry (set mid (entry starts e) x) v ≡ entry mid v
-        there v ne = getD-set-other mid (entry starts e) v x 0 ne
+        there : (v : ℕ) → v ≢ startAt t e → entry (set mid (startAt t e) x) v ≡ entry mid v
+        there v ne = getD-set-other mid (startAt t e) v x 0 ne
 
-        le : (v : ℕ) → entry (set mid (entry starts e) x) v ≤ entry mid v
-        le v = go (ℕ-discrete v (entry starts e))
+        le : (v : ℕ) → entry (set mid (startAt t e) x) v ≤ entry mid v
+        le v = go (ℕ-discrete v (startAt t e))
           where
-            go : Dec (v ≡ entry starts e) → entry (set mid (entry starts e) x) v ≤ entry mid v
-            go (yes q) = omega (arith, ap (entry (set mid (entry starts e) x)) q, here, ap (entry mid) q)
+            go : Dec (v ≡ startAt t e) → entry (set mid (startAt t e) x) v ≤ entry mid v
+            go (yes q) = omega (arith, ap (entry (set mid (startAt t e) x)) q, here, ap (entry mid) q)
             go (no ne) = omega (arith, there v ne)
 
-        by-node : (v : ℕ) → Dec (v ≡ entry starts e)
-            → (entry (set mid (entry starts e) x) v ≡ entry before v)
-            ⊎ ArcFrom m (entry starts) (entry ends) (entry weights) (entry (set mid (entry starts e) x)) v
+        by-node : (v : ℕ) → Dec (v ≡ startAt t e)
+            → (entry (set mid (startAt t e) x) v ≡ entry before v)
+            ⊎ ArcFrom m (startAt t) (endAt t) (weightAt t) (entry (set mid (startAt t e) x)) v
         by-node v (yes q) = inr (record {
           arc = e;
           on-graph = l;
           from = sym q;
-          gives = omega (arith, le (entry ends e), ap (entry (set mid (entry starts e) x)) q, here);
+          gives = omega (arith, le (endAt t e), ap (entry (set mid (startAt t e) x)) q, here);
         })
         by-node v (no ne) = go (P .from v)
           where
-            go : (entry mid v ≡ entry before v) ⊎ ArcFrom m (entry starts) (entry ends) (entry weights) (entry mid) v
-                → (entry (set mid (entry starts e) x) v ≡ entry before v)
-                ⊎ ArcFrom m (entry starts) (entry ends) (entry weights) (entry (set mid (entry starts e) x)) v
+            go : (entry mid v ≡ entry before v) ⊎ ArcFrom m (startAt t) (endAt t) (weightAt t) (entry mid) v
+                → (entry (set mid (startAt t e) x) v ≡ entry before v)
+                ⊎ ArcFrom m (startAt t) (endAt t) (weightAt t) (entry (set mid (startAt t e) x)) v
             go (inl q) = inl (there v ne ∙ q)
             go (inr h) = inr (record {
               arc = h .arc;
               on-graph = h .on-graph;
               from = h .from;
-              gives = omega (arith, h .gives, le (entry ends (h .arc)), there v ne);
+              gives = omega (arith, h .gives, le (endAt t (h .arc)), there v ne);
             })
 
-        less-sum : sumTo (length before) (entry (set mid (entry starts e) x)) < sumTo (length before) (entry mid)
+        less-sum : sumTo (length before) (entry (set mid (startAt t e) x)) < sumTo (length before) (entry mid)
         less-sum =
-            sumTo-lt (length before) (entry starts e) (entry (set mid (entry starts e) x)) (entry mid) (λ v _. le v) (A .start-lt e l) (omega (arith, here))
+            sumTo-lt (length before) (startAt t e) (entry (set mid (startAt t e) x)) (entry mid) (λ v _. le v) (A .start-lt e l) (omega (arith, here))
 
-        fall : (b : Bool) → lowered ≡ b → sumTo (length before) (entry (set mid (entry starts e) x)) < sumTo (length before) (entry before)
+        fall : (b : Bool) → lowered ≡ b → sumTo (length before) (entry (set mid (startAt t e) x)) < sumTo (length before) (entry before)
         fall true q = omega (arith, less-sum, P .falls q)
         fall false q = omega (arith, less-sum, ap (λ (k : List ℕ). sumTo (length before) (entry k)) (P .unchanged q .0))
 
     -- it does not: the cell stays
-    passed-keep : entry mid (entry starts e) ≤ entry mid (entry ends e) + entry weights e
-        → Passed m starts ends weights nth before mid (i + 1) lowered
+    passed-keep : entry mid (startAt t e) ≤ entry mid (endAt t e) + weightAt t e
+        → Passed m t nth before mid (i + 1) lowered
     passed-keep stays = record {
       same-length = P .same-length;
       low = P .low;
       from = P .from;
       unchanged = λ q. let (same, each) = P .unchanged q in (
         same,
-        below-more (λ d. entry mid (entry starts (nth d)) ≤ entry weights (nth d) + entry mid (entry ends (nth d))) i each
-            (subst (λ (a : ℕ). entry mid (entry starts a) ≤ entry weights a + entry mid (entry ends a)) next (omega arith)),
+        below-more (λ d. entry mid (startAt t (nth d)) ≤ weightAt t (nth d) + entry mid (endAt t (nth d))) i each
+            (subst (λ (a : ℕ). entry mid (startAt t a) ≤ weightAt t a + entry mid (endAt t a)) next (omega arith)),
       );
       falls = P .falls;
     }
 
     -- one arc more: the cell of its start is written, with what the arc gives or with what it was
-    pub passed-more : {Less More : Type 0} (a x : ℕ) (lowered' : Bool) → a ≡ entry starts e
-        → (Less → entry mid (entry ends e) + entry weights e < entry mid a) → (More → entry mid a ≤ entry mid (entry ends e) + entry weights e)
-        → (Less × (lowered' ≡ true) × (x ≡ entry mid (entry ends e) + entry weights e)) ⊎ (More × (lowered' ≡ lowered) × (x ≡ entry mid a))
-        → Passed m starts ends weights nth before (set mid a x) (i + 1) lowered'
-    passed-more a x lowered' is less more (inl (t, flag, gives)) =
-        subst₂ (λ (b : ℕ) (f : Bool). Passed m starts ends weights nth before (set mid b x) (i + 1) f) (sym is) (sym flag)
-        (passed-lower x gives (omega (arith, less t, ap (entry mid) is)))
-    passed-more a x lowered' is less more (inr (t, flag, old)) =
-        subst₂ (λ (k : List ℕ) (f : Bool). Passed m starts ends weights nth before k (i + 1) f)
-        (sym (ap (set mid a) old ∙ set-getD mid a 0)) (sym flag) (passed-keep (omega (arith, more t, ap (entry mid) is)))
+    pub passed-more : {Less More : Type 0} (a x : ℕ) (lowered' : Bool) → a ≡ startAt t e
+        → (Less → entry mid (endAt t e) + weightAt t e < entry mid a) → (More → entry mid a ≤ entry mid (endAt t e) + weightAt t e)
+        → (Less × (lowered' ≡ true) × (x ≡ entry mid (endAt t e) + weightAt t e)) ⊎ (More × (lowered' ≡ lowered) × (x ≡ entry mid a))
+        → Passed m t nth before (set mid a x) (i + 1) lowered'
+    passed-more a x lowered' is less more (inl (test, flag, gives)) =
+        subst₂ (λ (b : ℕ) (f : Bool). Passed m t nth before (set mid b x) (i + 1) f) (sym is) (sym flag)
+        (passed-lower x gives (omega (arith, less test, ap (entry mid) is)))
+    passed-more a x lowered' is less more (inr (test, flag, old)) =
+        subst₂ (λ (k : List ℕ) (f : Bool). Passed m t nth before k (i + 1) f)
+        (sym (ap (set mid a) old ∙ set-getD mid a 0)) (sym flag) (passed-keep (omega (arith, more test, ap (entry mid) is)))
 
 -- each arc is taken, in either direction
 pub taken-twice : (backward : Bool) (m i : ℕ) → i < m → (taken backward m i < m) × (taken backward m (taken backward m i) ≡ i)
@@ -160,74 +170,74 @@ taken-twice false m i l = (l, refl)
 taken-twice true m i l = (omega arith, omega arith)
 
 -- a pass over all arcs, in either direction, gives what one in their order gives
-pub passed-all : {m i : ℕ} {starts ends weights : List ℕ} (backward : Bool) {before after : List ℕ} {lowered : Bool}
-    → Passed m starts ends weights (taken backward m) before after i lowered → i ≡ m → Passed m starts ends weights (λ d. d) before after m lowered
-passed-all {m} {i} {starts} {ends} {weights} backward {before} {after} P q = record {
+pub passed-all : {m i : ℕ} {t : SheetTables} (backward : Bool) {before after : List ℕ} {lowered : Bool}
+    → Passed m t (taken backward m) before after i lowered → i ≡ m → Passed m t (λ d. d) before after m lowered
+passed-all {m} {i} {t} backward {before} {after} P q = record {
   same-length = P .same-length;
   low = P .low;
   from = P .from;
-  unchanged = λ t. let (same, each) = P .unchanged t in (
+  unchanged = λ stays. let (same, each) = P .unchanged stays in (
     same,
     λ d l.
         let (on, back) = taken-twice backward m d l in
-        subst (λ (a : ℕ). entry after (entry starts a) ≤ entry weights a + entry after (entry ends a)) back (each (taken backward m d) (omega (arith, on))),
+        subst (λ (a : ℕ). entry after (startAt t a) ≤ weightAt t a + entry after (endAt t a)) back (each (taken backward m d) (omega (arith, on))),
   );
   falls = P .falls;
 }
 
--- what is known at arc e: the tables have it, both its nodes have a cell, and the sum fits in four bytes
-pub record ArcKnown (starts ends weights column : List ℕ) (e : ℕ) : Type 0 where
-  pub starts-long : e < length starts
-  pub ends-long : e < length ends
-  pub weights-long : e < length weights
-  pub start-lt : entry starts e < length column
-  pub end-lt : entry ends e < length column
+-- what is known at arc e: the tables have it, both its nodes have a cell, and the sum is no more than the greatest cell
+pub record ArcKnown (t : SheetTables) (column : List ℕ) (e : ℕ) : Type 0 where
+  pub starts-long : e < length (t .starts)
+  pub ends-long : e < length (t .ends)
+  pub weights-long : e < length (t .weights)
+  pub start-lt : startAt t e < length column
+  pub end-lt : endAt t e < length column
   pub few : length column ≤ maxNodes
-  pub sum-lt : entry column (entry ends e) + entry weights e < 4294967296
+  pub sum-le : entry column (endAt t e) + weightAt t e ≤ noCost
 
-pub arc-known : {m i e : ℕ} {starts ends weights : List ℕ} {nth : ℕ → ℕ} {before mid : List ℕ} {lowered : Bool}
-    → ArcTables (length before) m starts ends weights × AllLow before → Passed m starts ends weights nth before mid i lowered → e < m
-    → ArcKnown starts ends weights mid e
-arc-known {m} {i} {e} {starts} {ends} (A, low) P l = record {
-  starts-long = omega (arith, A .starts-long);
-  ends-long = omega (arith, A .ends-long);
-  weights-long = omega (arith, A .weights-long);
+pub arc-known : {m i e : ℕ} {t : SheetTables} {nth : ℕ → ℕ} {before mid : List ℕ} {lowered : Bool}
+    → ArcTables (length before) m t × AllLow before → Passed m t nth before mid i lowered → e < m
+    → ArcKnown t mid e
+arc-known {m} {i} {e} {t} (A, low) P l = record {
+  starts-long = omega (arith, A .long .starts);
+  ends-long = omega (arith, A .long .ends);
+  weights-long = omega (arith, A .long .weights);
   start-lt = omega (arith, A .start-lt e l, P .same-length);
   end-lt = omega (arith, A .end-lt e l, P .same-length);
   few = omega (arith, A .few, P .same-length);
-  sum-lt = omega (arith, P .low (entry ends e), low (entry ends e) (A .end-lt e l), A .weight-le e l);
+  sum-le = omega (arith, P .low (endAt t e), low (endAt t e) (A .end-lt e l), A .weight-le e l);
 }
 
 -- ---- pass after pass
 
 -- between the passes: cells are lowered along arcs
-pub record Lowering (m : ℕ) (starts ends weights before mid : List ℕ) : Type 0 where
+pub record Lowering (m : ℕ) (t : SheetTables) (before mid : List ℕ) : Type 0 where
   pub same-length : length mid ≡ length before
   pub low : (v : ℕ) → entry mid v ≤ entry before v
-  pub from : (v : ℕ) → (entry mid v ≡ entry before v) ⊎ ArcFrom m (entry starts) (entry ends) (entry weights) (entry mid) v
+  pub from : (v : ℕ) → (entry mid v ≡ entry before v) ⊎ ArcFrom m (startAt t) (endAt t) (weightAt t) (entry mid) v
 
-module _ {m : ℕ} {starts ends weights before : List ℕ} where
-  pub lowering-none : Lowering m starts ends weights before before
+module _ {m : ℕ} {t : SheetTables} {before : List ℕ} where
+  pub lowering-none : Lowering m t before before
   lowering-none = record { same-length = refl; low = λ v. omega arith; from = λ v. inl refl }
 
-  module _ {mid after : List ℕ} {lowered : Bool} (L : Lowering m starts ends weights before mid) (P : Passed m starts ends weights (λ d. d) mid after m lowered) where
-    pub lowering-more : Lowering m starts ends weights before after
+  module _ {mid after : List ℕ} {lowered : Bool} (L : Lowering m t before mid) (P : Passed m t (λ d. d) mid after m lowered) where
+    pub lowering-more : Lowering m t before after
     lowering-more = record {
       same-length = P .same-length ∙ L .same-length;
       low = λ v. omega (arith, P .low v, L .low v);
       from = λ v. go v (P .from v) (L .from v);
     }
       where
-        go : (v : ℕ) → (entry after v ≡ entry mid v) ⊎ ArcFrom m (entry starts) (entry ends) (entry weights) (entry after) v
-            → (entry mid v ≡ entry before v) ⊎ ArcFrom m (entry starts) (entry ends) (entry weights) (entry mid) v
-            → (entry after v ≡ entry before v) ⊎ ArcFrom m (entry starts) (entry ends) (entry weights) (entry after) v
+        go : (v : ℕ) → (entry after v ≡ entry mid v) ⊎ ArcFrom m (startAt t) (endAt t) (weightAt t) (entry after) v
+            → (entry mid v ≡ entry before v) ⊎ ArcFrom m (startAt t) (endAt t) (weightAt t) (entry mid) v
+            → (entry after v ≡ entry before v) ⊎ ArcFrom m (startAt t) (endAt t) (weightAt t) (entry after) v
         go v (inr h) old = inr h
         go v (inl e) (inl q) = inl (e ∙ q)
         go v (inl e) (inr h) = inr (record {
           arc = h .arc;
           on-graph = h .on-graph;
           from = h .from;
-          gives = omega (arith, h .gives, P .low (entry ends (h .arc)));
+          gives = omega (arith, h .gives, P .low (endAt t (h .arc)));
         })
 
     -- a pass that lowered a cell lowers their sum
@@ -235,16 +245,16 @@ module _ {m : ℕ} {starts ends weights before : List ℕ} where
     pass-falls q = subst (λ (n : ℕ). sumTo n (entry after) < sumTo n (entry mid)) (L .same-length) (P .falls q)
 
     -- the last pass lowered nothing
-    pub lowering-end : lowered ≡ false → Settled m starts ends weights before after
+    pub lowering-end : lowered ≡ false → Settled m t before after
     lowering-end q = record {
       same-length = lowering-more .same-length;
       over = λ n. record { low = λ v _. lowering-more .low v; from = λ v _. lowering-more .from v; closed = P .unchanged q .1 };
     }
 
   -- what is asked of the column stays
-  pub still-low : {mid : List ℕ} → Lowering m starts ends weights before mid → AllLow before → AllLow mid
+  pub still-low : {mid : List ℕ} → Lowering m t before mid → AllLow before → AllLow mid
   still-low L low i l = omega (arith, L .low i, low i (omega (arith, L .same-length)))
 
-  pub still-arcs : {mid : List ℕ} → Lowering m starts ends weights before mid → ArcTables (length before) m starts ends weights
-      → ArcTables (length mid) m starts ends weights
-  still-arcs {mid} L A = subst (λ (n : ℕ). ArcTables n m starts ends weights) (sym (L .same-length)) A
+  pub still-arcs : {mid : List ℕ} → Lowering m t before mid → ArcTables (length before) m t
+      → ArcTables (length mid) m t
+  still-arcs {mid} L A = subst (λ (n : ℕ). ArcTables n m t) (sym (L .same-length)) A

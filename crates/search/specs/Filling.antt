@@ -11,7 +11,7 @@ use Rattle.subset.specs.Sets.{single, Part}
 use Rattle.subset.specs.Parts.{part-le, difference-part, rest-disjoint, part-and-rest}
 use Rattle.graph.specs.Graph.{Graph, Sound, Landing}
 use Rattle.graph.specs.LeastTotals.{IsCostTable, Room}
-use Rattle.graph.specs.Tables.{Support, by-arc, by-split, Supported, Capped, StartedSet, ClosedSet}
+use Rattle.graph.specs.ClosedSupported.{Support, by-arc, by-split, Supported, Capped, StartedSet, ClosedSet}
 use Rattle.graph.specs.Theorems.{closed-and-supported, tries-start-set, lowering-keeps-started, pass-closes-set, others-keep-closed}
 use Rattle.graph.specs.laws.Lowering.{support-lower}
 use Rattle.search.specs.Ranges.{Ordered, OneSize, Outside, Inside, inside-or-out, part-outside, earlier-outside}

@@ -10,7 +10,7 @@ pub mod Filling
 -- the cells of one set
 pub mod Column
 -- rows and columns of the table
-pub mod InTable
+pub mod RowsColumns
 -- the closing of sets in the list of cells
 pub mod ClosedCells
 -- from the start to the end

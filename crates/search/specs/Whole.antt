@@ -13,16 +13,17 @@ use lib.Pow.{pow-lt, pow-pos, pow-mono}
 use Rattle.limits.specs.Limits.{maxNodes, maxTerminals, maxSubsets, maxWeight, noCost}
 use Rattle.lists.specs.Numbers.{numbers, length-values, getD-values}
 use Rattle.lists.specs.Over.{over}
+use Rattle.lent_tables.specs.SheetTables.{SheetTables, Long, arcTablesOf, arcs-long}
 use Rattle.subset.specs.Sets.{single, terminalsIn}
 use Rattle.subset.specs.Terminals.{has-lt}
 use Rattle.subset.specs.Parts.{part-le}
 use Rattle.graph.specs.Graph.{Graph, Sound}
-use Rattle.graph.specs.InTables.{graphIn, start-in, end-in, weight-in, landings-in}
+use Rattle.graph.specs.HeldGraph.{graphIn, start-in, end-in, weight-in, landings-in}
 use Rattle.graph.specs.LeastTotals.{leastCell, IsCostTable, Room}
-use Rattle.graph.specs.Tables.{by-landing}
+use Rattle.graph.specs.ClosedSupported.{by-landing}
 use Rattle.graph.specs.laws.LeastMeaning.{room-above}
-use Rattle.table.specs.Cells.{cellIn, costTable}
-use Rattle.table.specs.Rows.{length-cells, cells-are}
+use Rattle.cost_table.specs.Cells.{cellIn, costTable}
+use Rattle.cost_table.specs.Rows.{length-cells, cells-are}
 use Rattle.order.specs.Order.{inOrder}
 use Rattle.search.specs.WorkingNone.{workingNone, finished, finished-cell}
 use Rattle.search.specs.Start.{startCell, start-landing, start-le, start-finite}
@@ -30,34 +31,29 @@ use Rattle.search.specs.Ranges.{OneSize}
 use Rattle.search.specs.InOrder.{in-order, first-empty, OrderTable}
 use Rattle.search.specs.BestSplit.{BestSplit, best-split-same}
 use Rattle.search.specs.Filling.{Filling, ArcFrom, ClosedOver, splitting, closing, filled}
-use Rattle.search.specs.Column.{entry, ArcTables, AllLow}
-use Rattle.search.specs.InTable.{rowOf, StartRow, SplitRow, EachRow, row-fits, row-length, row-entry}
+use Rattle.search.specs.Column.{entry, startAt, endAt, weightAt, ArcTables, AllLow}
+use Rattle.search.specs.RowsColumns.{rowOf, StartRow, SplitRow, EachRow, row-fits, row-length, row-entry}
 use Rattle.search.specs.ClosedCells.{cells-low, SetsClosed}
 
 -- tables that hold a graph of n nodes, k terminals and m arcs, within the limits of a sheet
-pub record Searchable (n k m : ℕ) (starts ends weights landings : List ℕ) : Type 0 where
+pub record Searchable (n k m : ℕ) (t : SheetTables) : Type 0 where
   pub few-nodes : n ≤ maxNodes
   pub few-terminals : k ≤ maxTerminals
-  pub starts-long : m ≤ length starts
-  pub ends-long : m ≤ length ends
-  pub weights-long : m ≤ length weights
-  pub landings-long : n ≤ length landings
-  pub sound : Sound (graphIn n k m starts ends weights landings)
-  pub weights-low : (e : ℕ) → e < m → graphIn n k m starts ends weights landings .weight e ≤ maxWeight
+  pub long : Long n m t
+  pub sound : Sound (graphIn n k m t)
+  pub weights-low : (e : ℕ) → e < m → graphIn n k m t .weight e ≤ maxWeight
 
-module _ {n k m : ℕ} {starts ends weights landings : List ℕ} (S : Searchable n k m starts ends weights landings) where
+module _ {n k m : ℕ} {t : SheetTables} (S : Searchable n k m t) where
   abbrev G : Graph
-  G = graphIn n k m starts ends weights landings
+  G = graphIn n k m t
 
-  pub arc-tables : ArcTables n m starts ends weights
+  pub arc-tables : ArcTables n m (arcTablesOf t)
   arc-tables = record {
     few = S .few-nodes;
-    starts-long = S .starts-long;
-    ends-long = S .ends-long;
-    weights-long = S .weights-long;
-    start-lt = λ e l. subst (λ (x : ℕ). x < n) (start-in n k m starts ends weights landings e l) (S .sound .start-lt e l);
-    end-lt = λ e l. subst (λ (x : ℕ). x < n) (end-in n k m starts ends weights landings e l) (S .sound .end-lt e l);
-    weight-le = λ e l. subst (λ (x : ℕ). x ≤ maxWeight) (weight-in n k m starts ends weights landings e l) (S .weights-low e l);
+    long = arcs-long (S .long);
+    start-lt = λ e l. subst (λ (x : ℕ). x < n) (start-in n k m t e l) (S .sound .start-lt e l);
+    end-lt = λ e l. subst (λ (x : ℕ). x < n) (end-in n k m t e l) (S .sound .end-lt e l);
+    weight-le = λ e l. subst (λ (x : ℕ). x ≤ maxWeight) (weight-in n k m t e l) (S .weights-low e l);
   }
 
   room : Room G workingNone
@@ -69,21 +65,21 @@ module _ {n k m : ℕ} {starts ends weights landings : List ℕ} (S : Searchable
   module _ {size : ℕ} (is : size ≡ 2 ^ k) where
     -- ---- the start
 
-    module _ {before cells : List ℕ} (whole : length before ≡ n * size) (E : EachRow (StartRow landings) n size n before cells) where
+    module _ {before cells : List ℕ} (whole : length before ≡ n * size) (E : EachRow (StartRow (t .landings)) n size n before cells) where
       start-cells : (v w : ℕ) → v < n → w < size → cellIn cells size v w ≡ startCell (G .landings v) w
       start-cells v w on small =
           let fits = row-fits v n size on in
-          let f : ℕ → ℕ = startCell (terminalsIn (getD landings v 0)) in
+          let f : ℕ → ℕ = startCell (terminalsIn (getD (t .landings) v 0)) in
           sym (row-entry size cells v w small)
           ∙ ap (λ (l : List ℕ). entry l w) (E .done v on .cells)
           ∙ getD-values f 0 (length (rowOf before size v)) w 0 (omega (arith, row-length size before v (omega arith)))
           ∙ ap f (zero-add w)
-          ∙ ap (λ (x : ℕ). startCell x w) (sym (landings-in n k m starts ends weights landings v on))
+          ∙ ap (λ (x : ℕ). startCell x w) (sym (landings-in n k m t v on))
 
       pub fill-start : Filling G workingNone inOrder 1 1 (cellIn cells size)
       fill-start = record {
         nothing = λ v on. start-cells v 0 on (omega (arith, pow-pos k));
-        landed = λ v i on l t. start-cells v (single i) on (omega (arith, pow-lt l)) ∙ start-landing (G .landings v) i t;
+        landed = λ v i on l here. start-cells v (single i) on (omega (arith, pow-lt l)) ∙ start-landing (G .landings v) i here;
         capped = λ v w on small. omega (arith, start-cells v w on (omega arith), start-le (G .landings v) w);
         supported = λ v w on ne small finite.
             let one = start-finite (G .landings v) w ne (omega (arith, start-cells v w on (omega arith))) in
@@ -118,7 +114,7 @@ module _ {n k m : ℕ} {starts ends weights landings : List ℕ} (S : Searchable
               (row-entry size after v (inOrder i) (omega arith))
               (E .done v on .each i f g (omega (arith, long v on)))
 
-      pub fill-close : Filling G workingNone inOrder first last (cellIn before size) → SetsClosed n m size starts ends weights inOrder first last before after
+      pub fill-close : Filling G workingNone inOrder first last (cellIn before size) → SetsClosed n m size (arcTablesOf t) inOrder first last before after
           → Filling G workingNone inOrder last last (cellIn after size)
       fill-close F C =
           closing G (S .sound) (λ v. refl) workingNone inOrder maxSubsets in-order few-sets first last R (cellIn before size) (cellIn after size) F
@@ -127,7 +123,7 @@ module _ {n k m : ℕ} {starts ends weights landings : List ℕ} (S : Searchable
             each = λ i f g small. on-graph i (C .sets .each i f g (omega arith));
           })
         where
-          on-graph : (i : ℕ) → ClosedOver n m (entry starts) (entry ends) (entry weights) (λ v. cellIn before size v (inOrder i))
+          on-graph : (i : ℕ) → ClosedOver n m (startAt t) (endAt t) (weightAt t) (λ v. cellIn before size v (inOrder i))
               (λ v. cellIn after size v (inOrder i))
               → ClosedOver n m (G .start) (G .end) (G .weight) (λ v. cellIn before size v (inOrder i)) (λ v. cellIn after size v (inOrder i))
           on-graph i D = record {
@@ -137,26 +133,26 @@ module _ {n k m : ℕ} {starts ends weights landings : List ℕ} (S : Searchable
                 omega (
                   arith,
                   D .closed e l,
-                  weight-in n k m starts ends weights landings e l,
-                  ap (λ (u : ℕ). cellIn after size u (inOrder i)) (start-in n k m starts ends weights landings e l),
-                  ap (λ (u : ℕ). cellIn after size u (inOrder i)) (end-in n k m starts ends weights landings e l),
+                  weight-in n k m t e l,
+                  ap (λ (u : ℕ). cellIn after size u (inOrder i)) (start-in n k m t e l),
+                  ap (λ (u : ℕ). cellIn after size u (inOrder i)) (end-in n k m t e l),
                 );
           }
             where
               go : (v : ℕ) → (cellIn after size v (inOrder i) ≡ cellIn before size v (inOrder i))
-                  ⊎ ArcFrom m (entry starts) (entry ends) (entry weights) (λ u. cellIn after size u (inOrder i)) v
+                  ⊎ ArcFrom m (startAt t) (endAt t) (weightAt t) (λ u. cellIn after size u (inOrder i)) v
                   → (cellIn after size v (inOrder i) ≡ cellIn before size v (inOrder i)) ⊎ ArcFrom m (G .start) (G .end) (G .weight)
                   (λ u. cellIn after size u (inOrder i)) v
               go v (inl e) = inl e
               go v (inr h) = inr (record {
                 arc = h .arc;
                 on-graph = h .on-graph;
-                from = start-in n k m starts ends weights landings (h .arc) (h .on-graph) ∙ h .from;
+                from = start-in n k m t (h .arc) (h .on-graph) ∙ h .from;
                 gives = omega (
                   arith,
                   h .gives,
-                  weight-in n k m starts ends weights landings (h .arc) (h .on-graph),
-                  ap (λ (u : ℕ). cellIn after size u (inOrder i)) (end-in n k m starts ends weights landings (h .arc) (h .on-graph)),
+                  weight-in n k m t (h .arc) (h .on-graph),
+                  ap (λ (u : ℕ). cellIn after size u (inOrder i)) (end-in n k m t (h .arc) (h .on-graph)),
                 );
               })
 
@@ -169,8 +165,9 @@ module _ {n k m : ℕ} {starts ends weights landings : List ℕ} (S : Searchable
     size-few : size ≤ maxSubsets
     size-few = omega (arith, few-sets)
 
-    pub start-asked : (cells : List ℕ) → length cells ≡ n * 2 ^ k → (n ≤ maxNodes) × (size ≤ maxSubsets) × (length cells ≡ n * size) × (n ≤ length landings)
-    start-asked cells whole = (S .few-nodes, size-few, whole ∙ ap (λ (x : ℕ). n * x) (sym is), S .landings-long)
+    pub start-asked : (cells : List ℕ) → length cells ≡ n * 2 ^ k
+        → (n ≤ maxNodes) × (size ≤ maxSubsets) × (length cells ≡ n * size) × (n ≤ length (t .landings))
+    start-asked cells whole = (S .few-nodes, size-few, whole ∙ ap (λ (x : ℕ). n * x) (sym is), S .long .landings)
 
     module _ {first last : ℕ} (R : OneSize inOrder maxSubsets first last) where
       pub split-asked : {sets : List ℕ} (cells : List ℕ) → OrderTable sets → length cells ≡ n * size → 0 < first
@@ -183,13 +180,13 @@ module _ {n k m : ℕ} {starts ends weights landings : List ℕ} (S : Searchable
       pub close-asked : (before cells column : List ℕ) → length column ≡ n → length before ≡ n * size
           → Filling G workingNone inOrder first first (cellIn before size)
           → EachRow (λ v. SplitRow inOrder first last) n size n before cells
-          → OneSize inOrder maxSubsets first last × (length cells ≡ length column * size) × ArcTables (length column) m starts ends weights × AllLow cells
+          → OneSize inOrder maxSubsets first last × (length cells ≡ length column * size) × ArcTables (length column) m (arcTablesOf t) × AllLow cells
           × (size ≤ maxSubsets)
       close-asked before cells column so-many whole F E =
           let all : length cells ≡ n * size = E .same-length ∙ whole in (
             R,
             all ∙ ap (λ (x : ℕ). x * size) (sym so-many),
-            subst (λ (x : ℕ). ArcTables x m starts ends weights) (sym so-many) arc-tables,
+            subst (λ (x : ℕ). ArcTables x m (arcTablesOf t)) (sym so-many) arc-tables,
             fill-low cells all (fill-split R whole F E),
             size-few,
           )
@@ -197,11 +194,11 @@ module _ {n k m : ℕ} {starts ends weights landings : List ℕ} (S : Searchable
       -- one size is done
       pub fill-next : {len : ℕ} {before mid after : List ℕ} → len ≡ n → length before ≡ n * size
           → Filling G workingNone inOrder first first (cellIn before size)
-          → EachRow (λ v. SplitRow inOrder first last) n size n before mid → SetsClosed len m size starts ends weights inOrder first last mid after
+          → EachRow (λ v. SplitRow inOrder first last) n size n before mid → SetsClosed len m size (arcTablesOf t) inOrder first last mid after
           → (length after ≡ n * size) × Filling G workingNone inOrder last last (cellIn after size)
       fill-next {len} {before} {mid} {after} so-many whole F E C = (
         C .same-length ∙ E .same-length ∙ whole,
-        fill-close R (fill-split R whole F E) (subst (λ (x : ℕ). SetsClosed x m size starts ends weights inOrder first last mid after) so-many C),
+        fill-close R (fill-split R whole F E) (subst (λ (x : ℕ). SetsClosed x m size (arcTablesOf t) inOrder first last mid after) so-many C),
       )
 
     -- ---- the end
@@ -229,35 +226,35 @@ module _ {n k m : ℕ} {starts ends weights landings : List ℕ} (S : Searchable
 
 -- ---- parts of longer tables
 
-module _ {n k m : ℕ} {starts ends weights landings : List ℕ} (S : Searchable n k m starts ends weights landings) where
+module _ {n k m : ℕ} {t : SheetTables} (S : Searchable n k m t) where
   -- how many cells there are
   pub total-fits : {size : ℕ} → size ≡ 2 ^ k → n * size ≤ maxNodes * maxSubsets
   total-fits {size} is = let few : size ≤ maxSubsets = omega (arith, few-sets S) in mul-le-mul (S .few-nodes) few
 
-  pub total-long : {size length : ℕ} → size ≡ 2 ^ k → n * 2 ^ k ≤ length → n * size ≤ length
+  pub total-long : {size len : ℕ} → size ≡ 2 ^ k → n * 2 ^ k ≤ len → n * size ≤ len
   total-long is long = omega (arith, ap (λ (x : ℕ). n * x) is)
 
   -- what is asked of a part of the cells and a part of the column, where n and so many cells are taken
   pub fill-asked : {size : ℕ} {sets : List ℕ} → size ≡ 2 ^ k → (cells column : List ℕ) → n * 2 ^ k ≤ length cells → n ≤ length column → OrderTable sets
-      → Searchable (length (take n column)) k m starts ends weights landings × (length (take (n * size) cells) ≡ length (take n column) * 2 ^ k) ×
+      → Searchable (length (take n column)) k m t × (length (take (n * size) cells) ≡ length (take n column) * 2 ^ k) ×
       OrderTable sets
   fill-asked {size} is cells column long wide order =
       let so-many : length (take n column) ≡ n = length-take-le n column wide in (
-        subst (λ (x : ℕ). Searchable x k m starts ends weights landings) (sym so-many) S,
+        subst (λ (x : ℕ). Searchable x k m t) (sym so-many) S,
         length-take-le (n * size) cells (total-long is long) ∙ ap (λ (x : ℕ). n * x) is ∙ ap (λ (x : ℕ). x * 2 ^ k) (sym so-many),
         order,
       )
 
   -- the first cells are the cost table, and later ones are untouched
   pub cells-over : {size : ℕ} → size ≡ 2 ^ k → (old column new : List ℕ) → n ≤ length column
-      → new ≡ costTable (graphIn (length (take n column)) k m starts ends weights landings) noCost
-      → new ++ drop (n * size) old ≡ over (costTable (graphIn n k m starts ends weights landings) noCost) old
+      → new ≡ costTable (graphIn (length (take n column)) k m t) noCost
+      → new ++ drop (n * size) old ≡ over (costTable (graphIn n k m t) noCost) old
   cells-over {size} is old column new wide e =
-      let table : List ℕ = costTable (graphIn n k m starts ends weights landings) noCost in
+      let table : List ℕ = costTable (graphIn n k m t) noCost in
       let same : new ≡ table =
-      e ∙ ap (λ (x : ℕ). costTable (graphIn x k m starts ends weights landings) noCost) (length-take-le n column wide) in
+      e ∙ ap (λ (x : ℕ). costTable (graphIn x k m t) noCost) (length-take-le n column wide) in
       let so-many : n * size ≡ length table =
-      ap (λ (x : ℕ). n * x) is ∙ sym (length-cells n (2 ^ k) (leastCell (graphIn n k m starts ends weights landings) noCost)) in
+      ap (λ (x : ℕ). n * x) is ∙ sym (length-cells n (2 ^ k) (leastCell (graphIn n k m t) noCost)) in
       ap₂ (λ (a : List ℕ) (i : ℕ). a ++ drop i old) same so-many
 
 -- the first marks are 1, and later ones are untouched

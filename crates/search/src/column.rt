@@ -1,12 +1,14 @@
 // The cells of one set, one for each site: taken from the table, lowered along the legs until no leg gives less, and put back.
+use limits::Cost;
 ghost use mathlib.Core.Path.{_≡_};
 ghost use mathlib.Core.List.{map};
 ghost use Prim.Native.Nat.{_*_, _<_, _≤_};
 ghost use lib.ListN.{length};
 ghost use Rattle.lists.specs.Numbers.{numbers};
-ghost use Rattle.table.specs.Cells.{cellIn};
+ghost use Rattle.lent_tables.specs.SheetTables.{arcsAlone};
+ghost use Rattle.cost_table.specs.Cells.{cellIn};
 ghost use Rattle.search.specs.Column.{ArcTables, AllLow, taken, Passed, Settled};
-ghost use Rattle.search.specs.InTable.{ColumnPut};
+ghost use Rattle.search.specs.RowsColumns.{ColumnPut};
 
 // The leg that a pass takes after i others: leg i, or, backward, so many before the last.
 fn taken_arc(i: usize, arcs: usize, backward: bool) -> usize
@@ -27,10 +29,12 @@ fn pass(
     weights: &[u32],
     arcs: usize,
     backward: bool,
-    column: &mut [u32],
+    column: &mut [Cost],
 ) -> bool
-    requires { ⌜ ArcTables (length (now column)) arcs (now starts) (now ends) (now weights) × AllLow (now column) ⌝ }
-    ensures { λ r. ⌜ Passed arcs (now (starts .entry)) (now (ends .entry)) (now (weights .entry)) (λ e. e) (now (column .entry)) (now (column .exit)) arcs r ⌝ }
+    requires { ⌜ (let t = arcsAlone (now starts) (now ends) (now weights) in
+        (ArcTables (length (now column)) arcs t × AllLow (now column))) ⌝ }
+    ensures { λ r. ⌜ (let t = arcsAlone (now (starts .entry)) (now (ends .entry)) (now (weights .entry)) in
+        (Passed arcs t (λ e. e) (now (column .entry)) (now (column .exit)) arcs r)) ⌝ }
 {
     let mut lowered = false;
     let mut i: usize = 0;
@@ -39,7 +43,7 @@ fn pass(
         let start = starts[e] as usize;
         let end = ends[e] as usize;
         let old = column[start];
-        let given = column[end] + weights[e];
+        let given = column[end] + (weights[e] as Cost);
         let mut new = old;
         if given < old {
             new = given;
@@ -53,9 +57,11 @@ fn pass(
 
 // Pass after pass, until one lowers nothing. Every third pass goes backward: cells that depend on each other against the order of the legs are then
 // lowered in one pass.
-pub fn settle(starts: &[u16], ends: &[u16], weights: &[u32], arcs: usize, column: &mut [u32])
-    requires { ⌜ ArcTables (length (now column)) arcs (now starts) (now ends) (now weights) × AllLow (now column) ⌝ }
-    ensures { λ _. ⌜ Settled arcs (now (starts .entry)) (now (ends .entry)) (now (weights .entry)) (now (column .entry)) (now (column .exit)) ⌝ }
+pub fn settle(starts: &[u16], ends: &[u16], weights: &[u32], arcs: usize, column: &mut [Cost])
+    requires { ⌜ (let t = arcsAlone (now starts) (now ends) (now weights) in
+        (ArcTables (length (now column)) arcs t × AllLow (now column))) ⌝ }
+    ensures { λ _. ⌜ (let t = arcsAlone (now (starts .entry)) (now (ends .entry)) (now (weights .entry)) in
+        (Settled arcs t (now (column .entry)) (now (column .exit)))) ⌝ }
 {
     loop {
         let lowered = pass(starts, ends, weights, arcs, false, column);
@@ -74,7 +80,7 @@ pub fn settle(starts: &[u16], ends: &[u16], weights: &[u32], arcs: usize, column
 }
 
 // The cells of the set w, site by site.
-pub fn take_column(cells: &[u32], size: usize, w: usize, column: &mut [u32])
+pub fn take_column(cells: &[Cost], size: usize, w: usize, column: &mut [Cost])
     requires { ⌜ (w < size) × (length (now column) * size ≤ length (now cells)) ⌝ }
     ensures { λ _. ⌜ now (column .exit) ≡ map (λ v. cellIn (now (cells .entry)) size v w) (numbers 0 (length (now (column .entry)))) ⌝ }
 {
@@ -86,7 +92,7 @@ pub fn take_column(cells: &[u32], size: usize, w: usize, column: &mut [u32])
 }
 
 // They become the cells of the set w.
-pub fn put_column(column: &[u32], size: usize, w: usize, cells: &mut [u32])
+pub fn put_column(column: &[Cost], size: usize, w: usize, cells: &mut [Cost])
     requires { ⌜ (w < size) × (length (now column) * size ≤ length (now cells)) ⌝ }
     ensures { λ _. ⌜ ColumnPut size w (now (column .entry)) (length (now (column .entry))) (now (cells .entry)) (now (cells .exit)) ⌝ }
 {

@@ -9,9 +9,10 @@ use crate::rows::split_rows;
 use crate::rows::start_rows;
 use crate::sets::close_sets;
 use crate::sets::end_of_size;
+use limits::Cost;
 use order::POSITIONS;
 use order::copy_order;
-use table::sets_of;
+use subset::sets_of;
 ghost use mathlib.Core.Path.{_≡_};
 ghost use mathlib.Core.List.{map};
 ghost use Prim.Native.Nat.{_*_, _^_, _≤_};
@@ -19,8 +20,9 @@ ghost use lib.ListN.{length, replicate};
 ghost use Rattle.limits.specs.Limits.{noCost};
 ghost use Rattle.lists.specs.Numbers.{numbers};
 ghost use Rattle.lists.specs.Over.{over};
-ghost use Rattle.graph.specs.InTables.{graphIn};
-ghost use Rattle.table.specs.Cells.{costTable};
+ghost use Rattle.lent_tables.specs.SheetTables.{sheetTables};
+ghost use Rattle.graph.specs.HeldGraph.{graphIn};
+ghost use Rattle.cost_table.specs.Cells.{costTable};
 ghost use Rattle.search.specs.WorkingNone.{finished};
 ghost use Rattle.search.specs.InOrder.{OrderTable};
 ghost use Rattle.search.specs.Column.{entry};
@@ -30,7 +32,7 @@ ghost use Rattle.search.specs.Whole.{Searchable};
 const MAX_NODES: usize = limits::MAX_NODES as usize;
 
 // Each "none" of the search becomes the table's.
-fn finish(cells: &mut [u32])
+fn finish(cells: &mut [Cost])
     ensures { λ _. ⌜ now (cells .exit) ≡ map (λ i. finished (entry (now (cells .entry)) i)) (numbers 0 (length (now (cells .entry)))) ⌝ }
 {
     let mut i = 0;
@@ -53,14 +55,13 @@ fn fill(
     sets: &[u16],
     k: u8,
     arcs: usize,
-    cells: &mut [u32],
-    column: &mut [u32],
+    cells: &mut [Cost],
+    column: &mut [Cost],
 )
-    requires { ⌜ Searchable (length (now column)) k arcs (now starts) (now ends) (now weights) (now landings)
-        × (length (now cells) ≡ length (now column) * 2 ^ k) × OrderTable (now sets) ⌝ }
-    ensures { λ _. ⌜ now (cells .exit)
-        ≡ costTable (graphIn (length (now (column .entry))) k arcs (now (starts .entry)) (now (ends .entry)) (now (weights .entry)) (now (landings .entry)))
-        noCost ⌝ }
+    requires { ⌜ (let t = sheetTables (now starts) (now ends) (now weights) (now landings) in
+        (Searchable (length (now column)) k arcs t × (length (now cells) ≡ length (now column) * 2 ^ k) × OrderTable (now sets))) ⌝ }
+    ensures { λ _. ⌜ (let t = sheetTables (now (starts .entry)) (now (ends .entry)) (now (weights .entry)) (now (landings .entry)) in
+        (now (cells .exit) ≡ costTable (graphIn (length (now (column .entry))) k arcs t) noCost)) ⌝ }
 {
     let n = column.len();
     let size = sets_of(k);
@@ -106,20 +107,20 @@ pub fn search(
     n: u16,
     k: u8,
     arcs: u16,
-    cells: &mut [u32],
+    cells: &mut [Cost],
     marks: &mut [u8],
 )
-    requires { ⌜ Searchable n k arcs (now starts) (now ends) (now weights) (now landings) × (n * 2 ^ k ≤ length (now cells)) × (n ≤ length (now marks)) ⌝ }
-    ensures { λ _. ⌜ now (cells .exit)
-        ≡ over (costTable (graphIn n k arcs (now (starts .entry)) (now (ends .entry)) (now (weights .entry)) (now (landings .entry))) noCost)
-        (now (cells .entry)) ⌝ }
-    ensures { λ _. ⌜ now (marks .exit) ≡ over (replicate n 1) (now (marks .entry)) ⌝ }
+    requires { ⌜ (let t = sheetTables (now starts) (now ends) (now weights) (now landings) in
+        (Searchable n k arcs t × (n * 2 ^ k ≤ length (now cells)) × (n ≤ length (now marks)))) ⌝ }
+    ensures { λ _. ⌜ (let t = sheetTables (now (starts .entry)) (now (ends .entry)) (now (weights .entry)) (now (landings .entry)) in
+        ((now (cells .exit) ≡ over (costTable (graphIn n k arcs t) noCost) (now (cells .entry)))
+        × (now (marks .exit) ≡ over (replicate n 1) (now (marks .entry))))) ⌝ }
 {
     let nodes = n as usize;
     let total = nodes * sets_of(k);
     let mut sets = [0u16; POSITIONS];
     copy_order(&mut sets);
-    let mut column = [0u32; MAX_NODES];
+    let mut column = [0 as Cost; MAX_NODES];
     fill(
         starts,
         ends,

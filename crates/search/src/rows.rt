@@ -1,4 +1,5 @@
 // The cells of one site, one for each set of stations: as they are before the search, and lowered by the splits of the sets of one size.
+use limits::Cost;
 use subset::Subset;
 use subset::terminals_in;
 ghost use mathlib.Core.Path.{_≡_};
@@ -13,13 +14,13 @@ ghost use Rattle.search.specs.Ranges.{OneSize};
 ghost use Rattle.search.specs.InOrder.{OrderTable};
 ghost use Rattle.search.specs.BestSplit.{BestSplit};
 ghost use Rattle.search.specs.Column.{entry, AllLow};
-ghost use Rattle.search.specs.InTable.{EachRow, StartRow, SplitRow};
+ghost use Rattle.search.specs.RowsColumns.{EachRow, StartRow, SplitRow};
 
-// "None" while the table is filled: above every total, and two of them, added, fit in four bytes.
-pub const WORKING_NONE: u32 = 2_147_483_647;
+// "None" while the table is filled: above every total, and two of them, added, fit in a cell.
+pub const WORKING_NONE: Cost = 2_147_483_647;
 
 // The cell of the set w before the search, at a site with these landings: 0 for the empty set, and for one station that lands there.
-fn start_cell(landings: Subset, w: u16) -> u32
+fn start_cell(landings: Subset, w: u16) -> Cost
     ensures { λ r. ⌜ r ≡ startCell (landings .0) w ⌝ }
 {
     if w == 0 {
@@ -36,7 +37,7 @@ fn start_cell(landings: Subset, w: u16) -> u32
 }
 
 // The cells of a site before the search.
-fn start_row(landings: Subset, row: &mut [u32])
+fn start_row(landings: Subset, row: &mut [Cost])
     requires { ⌜ length (now row) ≤ maxSubsets ⌝ }
     ensures { λ _. ⌜ now (row .exit) ≡ map (startCell (landings .0)) (numbers 0 (length (now (row .entry)))) ⌝ }
 {
@@ -48,7 +49,7 @@ fn start_row(landings: Subset, row: &mut [u32])
 }
 
 // The least of the cell of the set w and of its splits into two parts, by their greater part.
-fn best_split(row: &[u32], w: usize) -> u32
+fn best_split(row: &[Cost], w: usize) -> Cost
     requires { ⌜ (0 < w) × (w < length (now row)) × (length (now row) ≤ maxSubsets) × AllLow (now row) ⌝ }
     ensures { λ r. ⌜ BestSplit (entry (now (row .entry))) w r ⌝ }
 {
@@ -66,7 +67,7 @@ fn best_split(row: &[u32], w: usize) -> u32
 
 // Each set at the positions from `first` up to `last` of the order, which have one size: its cell becomes that least. Sets that the row does
 // not have are passed over. `sets` has the sets in their order.
-fn split_row(sets: &[u16], row: &mut [u32], first: usize, last: usize)
+fn split_row(sets: &[u16], row: &mut [Cost], first: usize, last: usize)
     requires { ⌜ OrderTable (now sets) × (0 < first) × OneSize inOrder maxSubsets first last × (length (now row) ≤ maxSubsets) × AllLow (now row) ⌝ }
     ensures { λ _. ⌜ SplitRow inOrder first last (now (row .entry)) (now (row .exit)) ⌝ }
 {
@@ -81,7 +82,7 @@ fn split_row(sets: &[u16], row: &mut [u32], first: usize, last: usize)
 }
 
 // The cells of all sites before the search.
-pub fn start_rows(landings: &[u16], n: usize, size: usize, cells: &mut [u32])
+pub fn start_rows(landings: &[u16], n: usize, size: usize, cells: &mut [Cost])
     requires { ⌜ (n ≤ maxNodes) × (size ≤ maxSubsets) × (length (now cells) ≡ n * size) × (n ≤ length (now landings)) ⌝ }
     ensures { λ _. ⌜ EachRow (StartRow (now (landings .entry))) n size n (now (cells .entry)) (now (cells .exit)) ⌝ }
 {
@@ -95,7 +96,14 @@ pub fn start_rows(landings: &[u16], n: usize, size: usize, cells: &mut [u32])
 }
 
 // The splits of the sets of one size, site by site.
-pub fn split_rows(sets: &[u16], n: usize, size: usize, first: usize, last: usize, cells: &mut [u32])
+pub fn split_rows(
+    sets: &[u16],
+    n: usize,
+    size: usize,
+    first: usize,
+    last: usize,
+    cells: &mut [Cost],
+)
     requires { ⌜ OrderTable (now sets) × (n ≤ maxNodes) × (size ≤ maxSubsets) × (length (now cells) ≡ n * size)
         × (0 < first) × OneSize inOrder maxSubsets first last
         × AllLow (now cells) ⌝ }

@@ -2,12 +2,14 @@
 use crate::column::put_column;
 use crate::column::settle;
 use crate::column::take_column;
+use limits::Cost;
 use order::POSITIONS;
 use subset::Subset;
 ghost use mathlib.Core.Path.{_≡_};
 ghost use Prim.Native.Nat.{_*_, _<_, _≤_};
 ghost use lib.ListN.{length};
 ghost use Rattle.limits.specs.Limits.{maxSubsets};
+ghost use Rattle.lent_tables.specs.SheetTables.{arcsAlone};
 ghost use Rattle.order.specs.Order.{inOrder};
 ghost use Rattle.search.specs.Ranges.{OneSize};
 ghost use Rattle.search.specs.InOrder.{OrderTable, SizeEnd};
@@ -46,13 +48,13 @@ fn close_set(
     arcs: usize,
     size: usize,
     w: usize,
-    cells: &mut [u32],
-    column: &mut [u32],
+    cells: &mut [Cost],
+    column: &mut [Cost],
 )
-    requires { ⌜ (w < size) × (length (now cells) ≡ length (now column) * size)
-        × ArcTables (length (now column)) arcs (now starts) (now ends) (now weights) × AllLow (now cells) ⌝ }
-    ensures { λ _. ⌜ SetClosed (length (now (column .entry))) arcs size (now (starts .entry)) (now (ends .entry)) (now (weights .entry)) w
-        (now (cells .entry)) (now (cells .exit)) ⌝ }
+    requires { ⌜ (let t = arcsAlone (now starts) (now ends) (now weights) in
+        ((w < size) × (length (now cells) ≡ length (now column) * size) × ArcTables (length (now column)) arcs t × AllLow (now cells))) ⌝ }
+    ensures { λ _. ⌜ (let t = arcsAlone (now (starts .entry)) (now (ends .entry)) (now (weights .entry)) in
+        (SetClosed (length (now (column .entry))) arcs size t w (now (cells .entry)) (now (cells .exit)))) ⌝ }
 {
     take_column(cells, size, w, column);
     settle(starts, ends, weights, arcs, column);
@@ -69,14 +71,15 @@ pub fn close_sets(
     size: usize,
     first: usize,
     last: usize,
-    cells: &mut [u32],
-    column: &mut [u32],
+    cells: &mut [Cost],
+    column: &mut [Cost],
 )
     requires { ⌜ OrderTable (now sets) ⌝ }
-    requires { ⌜ OneSize inOrder maxSubsets first last × (length (now cells) ≡ length (now column) * size)
-        × ArcTables (length (now column)) arcs (now starts) (now ends) (now weights) × AllLow (now cells) × (size ≤ maxSubsets) ⌝ }
-    ensures { λ _. ⌜ SetsClosed (length (now (column .entry))) arcs size (now (starts .entry)) (now (ends .entry)) (now (weights .entry)) inOrder first last
-        (now (cells .entry)) (now (cells .exit)) ⌝ }
+    requires { ⌜ (let t = arcsAlone (now starts) (now ends) (now weights) in
+        (OneSize inOrder maxSubsets first last × (length (now cells) ≡ length (now column) * size) × ArcTables (length (now column)) arcs t
+        × AllLow (now cells) × (size ≤ maxSubsets))) ⌝ }
+    ensures { λ _. ⌜ (let t = arcsAlone (now (starts .entry)) (now (ends .entry)) (now (weights .entry)) in
+        (SetsClosed (length (now (column .entry))) arcs size t inOrder first last (now (cells .entry)) (now (cells .exit)))) ⌝ }
 {
     let mut position = first;
     while position < last {

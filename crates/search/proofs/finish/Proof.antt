@@ -19,43 +19,33 @@ Inv-loop cells₀ i₀ cells i = (i ≤ length cells₀) × ValuesTo (λ j. fini
 abbrev μ-loop : tie.MeasureT-loop
 μ-loop cells₀ i₀ cells i = length cells₀ - i
 
--- src/lib.rt:38:5
 loop-holds : tie.Need-loop-holds Inv-loop μ-loop
 loop-holds c = (search needs, no-values)
 
--- src/lib.rt:39:24
 mul-cost : tie.Need-mul-cost Inv-loop μ-loop
 mul-cost c = search needs
 
--- src/lib.rt:39:24
 slice-read-cost : tie.Need-slice-read-cost Inv-loop μ-loop
 slice-read-cost c = search needs
 
--- src/lib.rt:43:9
 mul-cells : tie.Need-mul-cells Inv-loop μ-loop
 mul-cells c = search needs
 
--- src/lib.rt:43:9
 slice-write-cells : tie.Need-slice-write-cells Inv-loop μ-loop
 slice-write-cells c = search needs
 
--- src/lib.rt:44:9
 add-i : tie.Need-add-i Inv-loop μ-loop
 add-i c = search needs
 
--- src/lib.rt:38:5
 loop-less : tie.Need-loop-less Inv-loop μ-loop
 loop-less c = search needs
 
--- src/lib.rt:38:5
 loop-again : tie.Need-loop-again Inv-loop μ-loop
 loop-again c = (omega (arith, c .before .before .before .loop .inv .1 .same-length, c .before .before .loop-test .taken), next-value (c .before .before .loop-test .taken) (finished-by (λ t. t .taken) (λ t. t .left) (c .if1 .came) ∙ ap finished (later-value (omega arith) (c .before .before .before .loop .inv .1))) (c .before .before .before .loop .inv .1))
 
--- src/lib.rt:34:1
 same-length : tie.Need-same-length Inv-loop μ-loop
 same-length c = search needs
 
--- src/lib.rt:34:1
 returns : tie.Need-returns Inv-loop μ-loop
 returns c = all-values (c .before .loop .inv .0) (c .loop-test .left) (c .before .loop .inv .1)
 

@@ -19,31 +19,24 @@ Inv-loop marks₀ v₀ marks v = (v ≤ length marks₀) × ValuesTo (λ u. 1) v
 abbrev μ-loop : tie.MeasureT-loop
 μ-loop marks₀ v₀ marks v = length marks₀ - v
 
--- src/lib.rt:74:5
 loop-holds : tie.Need-loop-holds Inv-loop μ-loop
 loop-holds c = (search needs, no-values)
 
--- src/lib.rt:75:9
 slice-write-marks : tie.Need-slice-write-marks Inv-loop μ-loop
 slice-write-marks c = search needs
 
--- src/lib.rt:76:9
 add-v : tie.Need-add-v Inv-loop μ-loop
 add-v c = search needs
 
--- src/lib.rt:74:5
 loop-less : tie.Need-loop-less Inv-loop μ-loop
 loop-less c = omega (arith, c .before .loop .inv .1 .same-length, c .loop-test .taken)
 
--- src/lib.rt:74:5
 loop-again : tie.Need-loop-again Inv-loop μ-loop
 loop-again c = (omega (arith, c .before .loop .inv .1 .same-length, c .loop-test .taken), next-value (c .loop-test .taken) refl (c .before .loop .inv .1))
 
--- src/lib.rt:70:1
 same-length : tie.Need-same-length Inv-loop μ-loop
 same-length c = c .before .loop .inv .1 .same-length
 
--- src/lib.rt:70:1
 returns : tie.Need-returns Inv-loop μ-loop
 returns c = all-values (c .before .loop .inv .0) (c .loop-test .left) (c .before .loop .inv .1) ∙ constant-values (length (now (c .before .before .args .marks))) 1
 

@@ -14,69 +14,53 @@ use Rattle.search.proofs.search.Lts as lts
 use Rattle.search.proofs.fill.Reads as fill-reads
 use Rattle.search.proofs.mark_all.Reads as mark-all-reads
 use Rattle.order.proofs.copy_order.Reads as copy-order-reads
-use Rattle.table.proofs.sets_of.Reads as sets-of-reads
+use Rattle.subset.proofs.sets_of.Reads as sets-of-reads
 
--- src/lib.rt:118:25
 sets-of-requires : tie.Need-sets-of-requires
 sets-of-requires c κs = search needs
 
--- src/lib.rt:118:17
 mul-total : tie.Need-mul-total
 mul-total c = omega (arith, total-fits (c .before .before .before .before .before .before .before .pre .0) (c .sets-of .ensures))
 
--- src/lib.rt:120:16
 slice-aggregate-copy-order : tie.Need-slice-aggregate-copy-order
 slice-aggregate-copy-order c = search needs
 
--- src/lib.rt:120:5
 copy-order-requires : tie.Need-copy-order-requires
 copy-order-requires c κs = search needs
 
--- src/lib.rt:127:9
 slice-aggregate-fill : tie.Need-slice-aggregate-fill
 slice-aggregate-fill c = search needs
 
--- src/lib.rt:130:9
 slice-relend-prefix-fill : tie.Need-slice-relend-prefix-fill
 slice-relend-prefix-fill c = total-long (c .before .before .before .before .before .before .before .before .before .before .before .pre .0) (c .before .before .before .before .sets-of .ensures) (c .before .before .before .before .before .before .before .before .before .before .before .pre .1)
 
--- src/lib.rt:130:9
 slice-aggregate-fill-2 : tie.Need-slice-aggregate-fill-2
 slice-aggregate-fill-2 c = sym (length-take-le _ _ (total-long (c .before .before .before .before .before .before .before .before .before .before .before .before .pre .0) (c .before .before .before .before .before .sets-of .ensures) (c .before .before .before .before .before .before .before .before .before .before .before .before .pre .1)))
 
--- src/lib.rt:131:9
 array-borrow-prefix-column : tie.Need-array-borrow-prefix-column
 array-borrow-prefix-column c = search needs
 
--- src/lib.rt:131:9
 slice-aggregate-fill-3 : tie.Need-slice-aggregate-fill-3
 slice-aggregate-fill-3 c = sym (length-take-le _ _ (omega (arith, c .before .before .before .before .before .before .before .before .before .before .before .before .before .pre .0 .few-nodes)))
 
--- src/lib.rt:122:5
 fill-requires : tie.Need-fill-requires
 fill-requires c κs = fill-asked (c .before .before .before .before .before .before .before .before .before .before .before .before .before .pre .0) (c .before .before .before .before .before .before .sets-of .ensures) (now (c .before .before .before .before .before .before .before .before .before .before .before .before .before .args .cells)) _ (c .before .before .before .before .before .before .before .before .before .before .before .before .before .pre .1) (omega (arith, c .before .before .before .before .before .before .before .before .before .before .before .before .before .pre .0 .few-nodes)) (record { each = c .before .before .before .before .copy-order .ensures })
 
--- src/lib.rt:133:14
 slice-relend-prefix-mark-all : tie.Need-slice-relend-prefix-mark-all
 slice-relend-prefix-mark-all c = search needs
 
--- src/lib.rt:133:14
 slice-aggregate-mark-all : tie.Need-slice-aggregate-mark-all
 slice-aggregate-mark-all c = sym (length-take-le _ _ (c .before .before .before .before .before .before .before .before .before .before .before .before .before .before .before .before .before .before .pre .2))
 
--- src/lib.rt:133:5
 mark-all-requires : tie.Need-mark-all-requires
 mark-all-requires c κs = search needs
 
--- src/lib.rt:100:1
 same-length : tie.Need-same-length
 same-length c = search needs
 
--- src/lib.rt:100:1
 same-length-2 : tie.Need-same-length-2
 same-length-2 c = search needs
 
--- src/lib.rt:100:1
 returns : tie.Need-returns
 returns c = (cells-over (c .before .before .before .before .before .before .before .before .before .before .before .before .before .before .before .before .before .before .before .before .before .pre .0) (c .before .before .before .before .before .before .before .before .before .before .before .before .before .before .sets-of .ensures) (now (c .before .before .before .before .before .before .before .before .before .before .before .before .before .before .before .before .before .before .before .before .before .args .cells)) _ _ (omega (arith, c .before .before .before .before .before .before .before .before .before .before .before .before .before .before .before .before .before .before .before .before .before .pre .0 .few-nodes)) (c .before .before .before .before .before .before .before .fill .ensures), marks-over _ (now (c .before .before .before .before .before .before .before .before .before .before .before .before .before .before .before .before .before .before .before .before .before .args .marks)) _ (c .before .before .before .before .before .before .before .before .before .before .before .before .before .before .before .before .before .before .before .before .before .pre .2) (c .before .before .mark-all .ensures))
 

@@ -10,8 +10,8 @@ use borrow.Author.Needs.{needs}
 use borrow.Author.Tests.{not-true, not-false, leb-true, leb-false}
 use Rattle.limits.specs.Limits.{maxSubsets}
 use Rattle.answer.specs.Stated.{sender, noSender}
-use Rattle.table.specs.Cheapest.{columnIn}
-use Rattle.table.specs.Rows.{place-lt}
+use Rattle.cost_table.specs.Cheapest.{columnIn}
+use Rattle.cost_table.specs.Rows.{place-lt}
 use Rattle.enquirer.specs.Questions.{inRange}
 use Rattle.enquirer.specs.Tested.{Range, ranged, few-sets, sender-head, sender-short, sender-set, sender-stands, sends-cheapest, sends-none}
 use Rattle.enquirer.proofs.sender_question.best_sender_in.Statement.{statement}

@@ -6,7 +6,7 @@ use denote.Ref.{now}
 use borrow.Author.Needs.{needs}
 use Rattle.layout.specs.Laying.{load}
 use Rattle.layout.specs.Walking.{walked-stored, stop-stored, stop-falls}
-use Rattle.layout.specs.InTables.{cell-in, split-found, first-placed, first-falls, others-placed, others-falls, both-stored}
+use Rattle.layout.specs.FollowSplit.{cell-in, split-found, first-placed, first-falls, others-placed, others-falls, both-stored}
 use borrow.Fn.Kinds.{In}
 use borrow.Fn.PlainCycle.{Measures, is, falls, and}
 use Rattle.layout.proofs.plan.follow.Reads as follow
@@ -72,7 +72,7 @@ follow-split-requires : (t : ℕ) → follow-lts.Need-split-requires (
 follow-split-requires t c κs =
     let p = c .before .before .before .before .before .before .before .before .before .before .before .before .pre in
     let s = c .before .before .before .before .walk .ensures in
-    (stop-falls _ _ _ _ _ _ _ _ _ _ s t (p .0), (p .1 .0, (s .walked .placed, s .unfollowed (c .before .if1 .left))))
+    (stop-falls _ _ _ _ _ _ _ _ _ _ s t (p .0), (p .1 .0, s .walked .placed, s .unfollowed (c .before .if1 .left)))
 
 follow-same-length-2 : (t : ℕ) → follow-lts.Need-same-length-2 (
   walk-reads.Asked,
@@ -101,7 +101,7 @@ split-splitting-part-requires : (t : ℕ) → split-lts.Need-splitting-part-requ
 split-splitting-part-requires t c κs =
     let a = c .before .before .before .before .before .before .args in
     let p = c .before .before .before .before .before .before .pre .1 in
-    (p .0 .terminals, cell-in (a .n) (a .k) (a .arcs) (now (a .starts)) (now (a .ends)) (now (a .weights)) (now (a .landings)) (now (a .cells)) (p .0) (a .v) (a .w .0) (p .1 .0 .node) (p .1 .0 .set))
+    (p .0 .terminals, cell-in (p .0) (a .v) (a .w .0) (p .1 .node) (p .1 .set), p .1 .finite)
 
 split-enum-known-found : (t : ℕ) → split-lts.Need-enum-known-found (
   splitting-part-reads.Asked,
@@ -132,9 +132,12 @@ split-follow-requires : (t : ℕ) → split-lts.Need-follow-requires (
   follow.Post,
 ) (split-at t) split.Post
 split-follow-requires t c κs =
-    let a = c .before .before .before .before .before .before .before .before .before .before .before .before .args in
-    let p = c .before .before .before .before .before .before .before .before .before .before .before .before .pre .1 in
-    (first-falls (a .n) (a .k) (a .arcs) (now (a .starts)) (now (a .ends)) (now (a .weights)) (now (a .landings)) (now (a .cells)) (p .0) (a .v) (a .w .0) (a .at) (now (a .out)) (p .1 .0) (p .1 .1) _ (c .before .before .before .before .before .splitting-part .ensures) _ (c .before .before .before .found .given .1) t (c .before .before .before .before .before .before .before .before .before .before .before .before .pre .0), (p .0, first-placed (a .n) (a .k) (a .arcs) (now (a .starts)) (now (a .ends)) (now (a .weights)) (now (a .landings)) (now (a .cells)) (p .0) (a .v) (a .w .0) (a .at) (now (a .out)) (p .1 .0) (p .1 .1) _ (c .before .before .before .before .before .splitting-part .ensures) _ (c .before .before .before .found .given .1)))
+    let out = now (c .before .before .before .before .before .before .before .before .before .before .before .before .args .out) in
+    let measure = c .before .before .before .before .before .before .before .before .before .before .before .before .pre .0 in
+    let (ready, placed, unfollowed) = c .before .before .before .before .before .before .before .before .before .before .before .before .pre .1 in
+    let found = c .before .before .before .before .before .splitting-part .ensures in
+    let part = c .before .before .before .found .given .1 in
+    (first-falls ready out placed unfollowed found part t measure, (ready, first-placed ready out placed unfollowed found part))
 
 split-follow-requires-2 : (t : ℕ) → split-lts.Need-follow-requires-2 (
   splitting-part-reads.Asked,
@@ -145,9 +148,15 @@ split-follow-requires-2 : (t : ℕ) → split-lts.Need-follow-requires-2 (
   follow.Post,
 ) (split-at t) split.Post
 split-follow-requires-2 t c κs =
-    let a = c .before .before .before .before .before .before .before .before .before .before .before .before .before .before .before .before .args in
-    let p = c .before .before .before .before .before .before .before .before .before .before .before .before .before .before .before .before .pre .1 in
-    (others-falls (a .n) (a .k) (a .arcs) (now (a .starts)) (now (a .ends)) (now (a .weights)) (now (a .landings)) (now (a .cells)) (p .0) (a .v) (a .w .0) (a .at) (now (a .out)) (p .1 .0) (p .1 .1) _ (c .before .before .before .before .before .before .before .before .before .splitting-part .ensures) _ (c .before .before .before .before .before .before .before .found .given .1) _ (c .before .before .before .before .before .without .ensures) t (c .before .before .before .before .before .before .before .before .before .before .before .before .before .before .before .before .pre .0), (p .0, others-placed (a .n) (a .k) (a .arcs) (now (a .starts)) (now (a .ends)) (now (a .weights)) (now (a .landings)) (now (a .cells)) (p .0) (a .v) (a .w .0) (a .at) (now (a .out)) (p .1 .0) (p .1 .1) _ (c .before .before .before .before .before .before .before .before .before .splitting-part .ensures) _ (c .before .before .before .before .before .before .before .found .given .1) _ (c .before .before .before .before .before .without .ensures) _ _ (c .before .before .before .follow .ensures)))
+    let out = now (c .before .before .before .before .before .before .before .before .before .before .before .before .before .before .before .before .args .out) in
+    let measure = c .before .before .before .before .before .before .before .before .before .before .before .before .before .before .before .before .pre .0 in
+    let (ready, placed, unfollowed) = c .before .before .before .before .before .before .before .before .before .before .before .before .before .before .before .before .pre .1 in
+    let found = c .before .before .before .before .before .before .before .before .before .splitting-part .ensures in
+    let part = c .before .before .before .before .before .before .before .found .given .1 in
+    let others = c .before .before .before .before .before .without .ensures in (
+      others-falls ready out placed unfollowed found part others t measure,
+      (ready, others-placed ready out placed unfollowed found part others (c .before .before .before .follow .ensures)),
+    )
 
 split-enum-told : (t : ℕ) → split-lts.Need-enum-told (
   splitting-part-reads.Asked,
@@ -178,9 +187,10 @@ split-returns : (t : ℕ) → split-lts.Need-returns (
   follow.Post,
 ) (split-at t) split.Post
 split-returns t c =
-    let a = c .before .before .before .before .before .before .before .before .before .before .before .before .before .before .before .before .before .before .before .args in
-    let p = c .before .before .before .before .before .before .before .before .before .before .before .before .before .before .before .before .before .before .before .pre .1 in
-    both-stored (a .n) (a .k) (a .arcs) (now (a .starts)) (now (a .ends)) (now (a .weights)) (now (a .landings)) (now (a .cells)) (p .0) (a .v) (a .w .0) (a .at) (now (a .out)) (p .1 .0) (p .1 .1) _ (c .before .before .before .before .before .before .before .before .before .before .before .before .splitting-part .ensures) _ (c .before .before .before .before .before .before .before .before .before .before .found .given .1) _ (c .before .before .before .before .before .before .before .before .without .ensures) _ _ (c .before .before .before .before .before .before .follow .ensures) _ _ (c .before .before .follow2 .ensures)
+    let out = now (c .before .before .before .before .before .before .before .before .before .before .before .before .before .before .before .before .before .before .before .args .out) in
+    let (ready, placed, unfollowed) = c .before .before .before .before .before .before .before .before .before .before .before .before .before .before .before .before .before .before .before .pre .1 in
+    both-stored ready out placed unfollowed (c .before .before .before .before .before .before .before .before .before .before .before .before .splitting-part .ensures) (c .before .before .before .before .before .before .before .before .before .before .found .given .1)
+    (c .before .before .before .before .before .before .before .before .without .ensures) (c .before .before .before .before .before .before .follow .ensures) (c .before .before .follow2 .ensures)
 
 split-returns-2 : (t : ℕ) → split-lts.Need-returns-2 (
   splitting-part-reads.Asked,
@@ -191,9 +201,9 @@ split-returns-2 : (t : ℕ) → split-lts.Need-returns-2 (
   follow.Post,
 ) (split-at t) split.Post
 split-returns-2 t c =
-    let a = c .before .before .before .before .before .before .before .before .before .args in
-    let p = c .before .before .before .before .before .before .before .before .before .pre .1 in
-    absurd (split-found (a .n) (a .k) (a .arcs) (now (a .starts)) (now (a .ends)) (now (a .weights)) (now (a .landings)) (now (a .cells)) (p .0) (a .v) (a .w .0) (a .at) (now (a .out)) (p .1 .0) (p .1 .1) _ (c .before .before .splitting-part .ensures) (c .enum-told .given .1))
+    let out = now (c .before .before .before .before .before .before .before .before .before .args .out) in
+    let (ready, placed, unfollowed) = c .before .before .before .before .before .before .before .before .before .pre .1 in
+    absurd (split-found ready out placed unfollowed (c .before .before .splitting-part .ensures) (c .enum-told .given .1))
 
 pub +follow+split-spec : {M : Type 1} → statement M
 +follow+split-spec = close μ-follow μ-split (λ t. follow-lts.spec (

@@ -2,6 +2,7 @@
 -- Assumes nothing.
 use Prim.Native.Nat.{ℕ, _+_, _^_}
 use mathlib.Core.Path.{_≡_, sym, ap, ap₂, _∙_}
+use mathlib.Core.Logic.{inl, inr}
 use mathlib.Core.Bool.{true}
 use lib.Dec.{eqb}
 use denote.Ref.{now}
@@ -9,8 +10,8 @@ use borrow.Author.Needs.{needs}
 use borrow.Author.Tests.{not-true, not-false}
 use Rattle.lists.specs.Tests.{and-fails, and-passes}
 use Rattle.subset.specs.Sets.{isPart}
-use Rattle.table.specs.Cells.{cellIn}
-use Rattle.layout.specs.Tests.{part-in, rest-of}
+use Rattle.cost_table.specs.Cells.{cellIn}
+use Rattle.layout.specs.Tests.{none-no-split, part-in, rest-of}
 use Rattle.layout.proofs.steps.part_splits.Statement.{statement}
 use Rattle.layout.proofs.steps.part_splits.Tie as tie
 
@@ -26,11 +27,25 @@ cell-requires c κs =
     let a = c .before .before .before .args in
     (p .0, part-in (2 ^ a .k) (a .y .0) (a .w .0) (a .v) _ (sym (c .before .is-part-of .ensures) ∙ not-false _ (c .if1 .left)) (p .1))
 
+returns-2 : tie.Need-returns-2
+returns-2 c =
+    let a = c .before .before .before .before .before .args in
+    let part : isPart (a .y .0) (a .w .0) ≡ true = sym (c .before .before .before .is-part-of .ensures) ∙ not-false _ (c .before .before .if1 .left) in
+    sym (none-no-split (a .y .0) (a .w .0) _ _ (a .cost) part (c .before .before .before .before .before .pre .2) (inl (sym (c .before .cell .ensures) ∙ c .if2 .taken)))
+
 without-requires : tie.Need-without-requires
 without-requires c κs = search needs
 
 cell-requires-2 : tie.Need-cell-requires-2
 cell-requires-2 c κs = search needs
+
+returns-3 : tie.Need-returns-3
+returns-3 c =
+    let a = c .before .before .before .before .before .before .before .before .args in
+    let part : isPart (a .y .0) (a .w .0) ≡ true = sym (c .before .before .before .before .before .before .is-part-of .ensures) ∙ not-false _ (c .before .before .before .before .before .if1 .left) in
+    let other = ap (cellIn (now (a .cells)) (2 ^ a .k) (a .v)) (rest-of (a .y .0) (a .w .0) _ part (c .before .before .without .ensures)) in
+    sym (none-no-split (a .y .0) (a .w .0) _ _ (a .cost) part (c .before .before .before .before .before .before .before .before .pre .2)
+    (inr (sym (c .before .cell2 .ensures ∙ other) ∙ c .if3 .taken)))
 
 cast-result : tie.Need-cast-result
 cast-result c = search needs
@@ -41,12 +56,12 @@ cast-result-2 c = search needs
 add-result : tie.Need-add-result
 add-result c = search needs
 
-returns-2 : tie.Need-returns-2
-returns-2 c =
-    let a = c .before .before .before .before .before .before .args in
-    let part : isPart (a .y .0) (a .w .0) ≡ true = sym (c .before .before .before .before .is-part-of .ensures) ∙ not-false _ (c .before .before .before .if1 .left) in
-    let other = ap (cellIn (now (a .cells)) (2 ^ a .k) (a .v)) (rest-of (a .y .0) (a .w .0) _ part (c .before .without .ensures)) in
-    ap₂ (λ (x y : ℕ). eqb (x + y) (a .cost)) (c .before .before .cell .ensures) (c .cell2 .ensures ∙ other) ∙ sym (and-passes _ _ part)
+returns-4 : tie.Need-returns-4
+returns-4 c =
+    let a = c .before .before .before .before .before .before .before .before .args in
+    let part : isPart (a .y .0) (a .w .0) ≡ true = sym (c .before .before .before .before .before .before .is-part-of .ensures) ∙ not-false _ (c .before .before .before .before .before .if1 .left) in
+    let other = ap (cellIn (now (a .cells)) (2 ^ a .k) (a .v)) (rest-of (a .y .0) (a .w .0) _ part (c .before .before .without .ensures)) in
+    ap₂ (λ (x y : ℕ). eqb (x + y) (a .cost)) (c .before .before .before .before .cell .ensures) (c .before .cell2 .ensures ∙ other) ∙ sym (and-passes _ _ part)
 
 pub part-splits-spec : {M : Type 1} → statement M
 part-splits-spec =
@@ -55,9 +70,11 @@ part-splits-spec =
     is-part-of-requires
     returns
     cell-requires
+    returns-2
     without-requires
     cell-requires-2
+    returns-3
     cast-result
     cast-result-2
     add-result
-    returns-2)
+    returns-4)

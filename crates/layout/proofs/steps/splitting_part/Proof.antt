@@ -1,11 +1,13 @@
 -- `layout::steps::splitting_part` meets its contract. The loop's invariant: no number so far splits the set. The measure is how many are left.
 -- Assumes nothing.
 use Prim.Native.Nat.{ℕ, _≤_, _<_, _-_}
+use mathlib.Core.Path.{sym, subst}
 use mathlib.Core.Bool.{not}
 use native.Mathlib.Omega.{arith}
 use lib.Dec.{T}
 use denote.Ref.{now}
 use borrow.Author.Needs.{needs}
+use Rattle.limits.specs.Limits.{noCost}
 use Rattle.layout.specs.Steps.{splitsIn}
 use Rattle.layout.specs.Tests.{splits-at, none-empty, found-at, found-nothing, not-yet}
 use Rattle.layout.proofs.steps.splitting_part.Statement.{statement}
@@ -24,7 +26,9 @@ loop-holds : tie.Need-loop-holds Inv-loop μ-loop
 loop-holds c = let a = c .before .before .args in (omega arith, none-empty (a .k) (now (a .cells)) (a .v) (a .w .0))
 
 part-splits-requires : tie.Need-part-splits-requires Inv-loop μ-loop
-part-splits-requires c κs = c .before .before .before .before .before .pre
+part-splits-requires c κs =
+    let p = c .before .before .before .before .before .pre in
+    (p .0, p .1, subst (λ (x : ℕ). x < noCost) (sym (c .before .before .before .cell .ensures)) (p .2))
 
 returns : tie.Need-returns Inv-loop μ-loop
 returns c =

@@ -4,13 +4,14 @@
 use Prim.Native.Nat.{_-_, _≤_}
 use mathlib.Core.Path.{refl}
 use native.Mathlib.Omega.{arith}
+use Rattle.lent_tables.specs.SheetTables.{arcsAlone}
 use Rattle.search.specs.Column.{taken, Passed, passed-none, passed-more, passed-all, arc-known}
 use borrow.Author.Needs.{needs}
 use Rattle.search.proofs.column.pass.Statement.{statement}
 use Rattle.search.proofs.column.pass.Tie as tie
 
 abbrev Inv-loop : tie.InvT-loop
-Inv-loop starts ends weights arcs backward column₀ lowered₀ i₀ column lowered i = (i ≤ arcs) × Passed arcs starts ends weights (taken backward arcs) column₀ column i lowered
+Inv-loop starts ends weights arcs backward column₀ lowered₀ i₀ column lowered i = (i ≤ arcs) × Passed arcs (arcsAlone starts ends weights) (taken backward arcs) column₀ column i lowered
 
 abbrev μ-loop : tie.MeasureT-loop
 μ-loop starts ends weights arcs backward column₀ lowered₀ i₀ column lowered i = arcs - i

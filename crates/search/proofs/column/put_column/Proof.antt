@@ -4,8 +4,8 @@ use Prim.Native.Nat.{_-_, _≤_}
 use native.Mathlib.Omega.{arith}
 use lib.ListN.{length}
 use borrow.Author.Needs.{needs}
-use Rattle.search.specs.InTable.{ColumnPut, put-none, put-more, put-all}
-use Rattle.table.specs.Rows.{place-lt}
+use Rattle.search.specs.RowsColumns.{ColumnPut, put-none, put-more, put-all}
+use Rattle.cost_table.specs.Rows.{place-lt}
 use Rattle.search.proofs.column.put_column.Statement.{statement}
 use Rattle.search.proofs.column.put_column.Tie as tie
 use Rattle.search.proofs.column.put_column.Reads as reads
@@ -17,51 +17,39 @@ Inv-loop column size w cells₀ v₀ cells v = (v ≤ length column) × ColumnPu
 abbrev μ-loop : tie.MeasureT-loop
 μ-loop column size w cells₀ v₀ cells v = length column - v
 
--- src/column.rt:65:5
 loop-holds : tie.Need-loop-holds Inv-loop μ-loop
 loop-holds c = (search needs, put-none)
 
--- src/column.rt:66:31
 mul-cells : tie.Need-mul-cells Inv-loop μ-loop
 mul-cells c = search needs
 
--- src/column.rt:66:31
 shared-slice-read-cells : tie.Need-shared-slice-read-cells Inv-loop μ-loop
 shared-slice-read-cells c = search needs
 
--- src/column.rt:66:15
 mul-cells-2 : tie.Need-mul-cells-2 Inv-loop μ-loop
 mul-cells-2 c = omega (arith, place-lt _ _ _ _ _ (c .before .loop-test .taken) (c .before .before .before .pre .0) (c .before .before .before .pre .1))
 
--- src/column.rt:66:15
 add-cells : tie.Need-add-cells Inv-loop μ-loop
 add-cells c = omega (arith, place-lt _ _ _ _ _ (c .before .loop-test .taken) (c .before .before .before .pre .0) (c .before .before .before .pre .1))
 
--- src/column.rt:66:9
 mul-cells-3 : tie.Need-mul-cells-3 Inv-loop μ-loop
 mul-cells-3 c = omega (arith, place-lt _ _ _ _ _ (c .before .loop-test .taken) (c .before .before .before .pre .0) (c .before .before .before .pre .1))
 
--- src/column.rt:66:9
 slice-write-cells : tie.Need-slice-write-cells Inv-loop μ-loop
 slice-write-cells c = omega (arith, place-lt _ _ _ _ _ (c .before .loop-test .taken) (c .before .before .before .pre .0) (c .before .before .before .pre .1), c .before .before .loop .inv .1 .same-length)
 
--- src/column.rt:67:9
 add-v : tie.Need-add-v Inv-loop μ-loop
 add-v c = search needs
 
--- src/column.rt:65:5
 loop-less : tie.Need-loop-less Inv-loop μ-loop
 loop-less c = search needs
 
--- src/column.rt:65:5
 loop-again : tie.Need-loop-again Inv-loop μ-loop
 loop-again c = (search needs, put-more (c .before .before .before .pre .0) (place-lt _ _ _ _ _ (c .before .loop-test .taken) (c .before .before .before .pre .0) (c .before .before .before .pre .1)) (c .before .before .loop .inv .1))
 
--- src/column.rt:60:1
 same-length : tie.Need-same-length Inv-loop μ-loop
 same-length c = c .before .loop .inv .1 .same-length
 
--- src/column.rt:60:1
 returns : tie.Need-returns Inv-loop μ-loop
 returns c = put-all (c .before .loop .inv .1) (omega (arith, c .before .loop .inv .0))
 

@@ -4,6 +4,7 @@ use native.Mathlib.Omega.{arith}
 use lib.ListN.{length}
 use borrow.Author.Tests.{not-true, not-false}
 use Rattle.lists.specs.Sums.{sumTo}
+use Rattle.lent_tables.specs.SheetTables.{arcsAlone}
 use Rattle.search.specs.Column.{entry, Lowering, lowering-none, lowering-more, pass-falls, lowering-end, still-low, still-arcs}
 use Rattle.search.proofs.column.settle.Statement.{statement}
 use Rattle.search.proofs.column.settle.Tie as tie
@@ -12,7 +13,7 @@ use Rattle.search.proofs.column.settle.Lts as lts
 use Rattle.search.proofs.column.pass.Reads as pass-reads
 
 abbrev Inv-loop : tie.InvT-loop
-Inv-loop starts ends weights arcs column₀ column = Lowering arcs starts ends weights column₀ column
+Inv-loop starts ends weights arcs column₀ column = Lowering arcs (arcsAlone starts ends weights) column₀ column
 
 abbrev μ-loop : tie.MeasureT-loop
 μ-loop starts ends weights arcs column₀ column = sumTo (length column₀) (entry column)

@@ -7,8 +7,8 @@ use lib.ListN.{length}
 use denote.Ref.{now}
 use borrow.Author.Needs.{needs}
 use Rattle.lists.specs.Values.{ValuesTo, no-values, next-value, all-values}
-use Rattle.table.specs.Cells.{cellIn}
-use Rattle.table.specs.Rows.{place-lt}
+use Rattle.cost_table.specs.Cells.{cellIn}
+use Rattle.cost_table.specs.Rows.{place-lt}
 use Rattle.search.proofs.column.take_column.Statement.{statement}
 use Rattle.search.proofs.column.take_column.Tie as tie
 use Rattle.search.proofs.column.take_column.Reads as reads
@@ -20,51 +20,39 @@ Inv-loop cells size w column₀ v₀ column v = (v ≤ length column₀) × Valu
 abbrev μ-loop : tie.MeasureT-loop
 μ-loop cells size w column₀ v₀ column v = length column₀ - v
 
--- src/column.rt:53:5
 loop-holds : tie.Need-loop-holds Inv-loop μ-loop
 loop-holds c = (search needs, no-values)
 
--- src/column.rt:54:27
 mul-column : tie.Need-mul-column Inv-loop μ-loop
 mul-column c = omega (arith, place-lt (c .before .loop .v) (length (now (c .before .before .args .column))) _ _ _ (omega (arith, c .loop-test .taken, c .before .loop .inv .1 .same-length)) (c .before .before .pre .0) (c .before .before .pre .1))
 
--- src/column.rt:54:27
 add-column : tie.Need-add-column Inv-loop μ-loop
 add-column c = omega (arith, place-lt (c .before .loop .v) (length (now (c .before .before .args .column))) _ _ _ (omega (arith, c .loop-test .taken, c .before .loop .inv .1 .same-length)) (c .before .before .pre .0) (c .before .before .pre .1))
 
--- src/column.rt:54:21
 mul-column-2 : tie.Need-mul-column-2 Inv-loop μ-loop
 mul-column-2 c = omega (arith, place-lt (c .before .loop .v) (length (now (c .before .before .args .column))) _ _ _ (omega (arith, c .loop-test .taken, c .before .loop .inv .1 .same-length)) (c .before .before .pre .0) (c .before .before .pre .1))
 
--- src/column.rt:54:21
 shared-slice-read-column : tie.Need-shared-slice-read-column Inv-loop μ-loop
 shared-slice-read-column c = place-lt (c .before .before .loop .v) (length (now (c .before .before .before .args .column))) _ _ _ (omega (arith, c .before .loop-test .taken, c .before .before .loop .inv .1 .same-length)) (c .before .before .before .pre .0) (c .before .before .before .pre .1)
 
--- src/column.rt:54:9
 mul-column-3 : tie.Need-mul-column-3 Inv-loop μ-loop
 mul-column-3 c = search needs
 
--- src/column.rt:54:9
 slice-write-column : tie.Need-slice-write-column Inv-loop μ-loop
 slice-write-column c = search needs
 
--- src/column.rt:55:9
 add-v : tie.Need-add-v Inv-loop μ-loop
 add-v c = search needs
 
--- src/column.rt:53:5
 loop-less : tie.Need-loop-less Inv-loop μ-loop
 loop-less c = omega (arith, c .before .before .loop .inv .1 .same-length, c .before .loop-test .taken)
 
--- src/column.rt:53:5
 loop-again : tie.Need-loop-again Inv-loop μ-loop
 loop-again c = (omega (arith, c .before .before .loop .inv .1 .same-length, c .before .loop-test .taken), next-value (c .before .loop-test .taken) refl (c .before .before .loop .inv .1))
 
--- src/column.rt:48:1
 same-length : tie.Need-same-length Inv-loop μ-loop
 same-length c = c .before .loop .inv .1 .same-length
 
--- src/column.rt:48:1
 returns : tie.Need-returns Inv-loop μ-loop
 returns c = all-values (c .before .loop .inv .0) (c .loop-test .left) (c .before .loop .inv .1)
 

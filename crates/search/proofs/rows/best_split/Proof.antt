@@ -17,63 +17,48 @@ Inv-loop row w best₀ y₀ best y = Tried (entry row) w y best
 abbrev μ-loop : tie.MeasureT-loop
 μ-loop row w best₀ y₀ best y = y
 
--- src/rows.rt:54:20
 mul-best : tie.Need-mul-best Inv-loop μ-loop
 mul-best c = search needs
 
--- src/rows.rt:54:20
 shared-slice-read-best : tie.Need-shared-slice-read-best Inv-loop μ-loop
 shared-slice-read-best c = search needs
 
--- src/rows.rt:55:18
 sub-y : tie.Need-sub-y Inv-loop μ-loop
 sub-y c = search needs
 
--- src/rows.rt:56:5
 loop-holds : tie.Need-loop-holds Inv-loop μ-loop
 loop-holds c = tried-none _ _ (c .before .pre .0)
 
--- src/rows.rt:56:15
 add-loop : tie.Need-add-loop Inv-loop μ-loop
 add-loop c = omega (arith, c .loop .inv .below)
 
--- src/rows.rt:57:19
 mul-sum : tie.Need-mul-sum Inv-loop μ-loop
 mul-sum c = omega (arith, c .before .loop .inv .below)
 
--- src/rows.rt:57:19
 shared-slice-read-sum : tie.Need-shared-slice-read-sum Inv-loop μ-loop
 shared-slice-read-sum c = omega (arith, c .before .before .loop .inv .below, c .before .before .before .before .pre .1)
 
--- src/rows.rt:57:32
 sub-sum : tie.Need-sub-sum Inv-loop μ-loop
 sub-sum c = omega (arith, c .before .before .loop .inv .below)
 
--- src/rows.rt:57:28
 mul-sum-2 : tie.Need-mul-sum-2 Inv-loop μ-loop
 mul-sum-2 c = omega (arith, c .before .before .loop .inv .below, c .before .before .before .before .pre .1)
 
--- src/rows.rt:57:28
 shared-slice-read-sum-2 : tie.Need-shared-slice-read-sum-2 Inv-loop μ-loop
 shared-slice-read-sum-2 c = omega (arith, c .before .before .before .loop .inv .below, c .before .before .before .before .before .pre .1)
 
--- src/rows.rt:57:19
 add-sum : tie.Need-add-sum Inv-loop μ-loop
 add-sum c = omega (arith, c .before .before .before .loop .inv .below, c .before .before .before .before .before .pre .3 (c .before .before .before .loop .y) (omega (arith, c .before .before .before .loop .inv .below, c .before .before .before .before .before .pre .1)), c .before .before .before .before .before .pre .3 (c .before .before .before .before .before .args .w - c .before .before .before .loop .y) (omega (arith, c .before .before .before .loop .inv .below, c .before .before .before .before .before .pre .1)))
 
--- src/rows.rt:61:14
 sub-y-2 : tie.Need-sub-y-2 Inv-loop μ-loop
 sub-y-2 c = omega (arith, c .before .before .before .loop-test .taken)
 
--- src/rows.rt:56:5
 loop-less : tie.Need-loop-less Inv-loop μ-loop
 loop-less c = omega (arith, c .before .before .before .loop-test .taken, and-le-l (c .before .before .before .before .loop .y - 1) (c .before .before .before .before .before .before .args .w))
 
--- src/rows.rt:56:5
 loop-again : tie.Need-loop-again Inv-loop μ-loop
 loop-again c = tried-next _ _ _ _ _ (c .before .before .before .loop-test .taken) (λ t. t .taken) (λ t. t .left) (c .if1 .came) (c .before .before .before .before .loop .inv)
 
--- src/rows.rt:50:1
 returns : tie.Need-returns Inv-loop μ-loop
 returns c = tried-all _ _ _ _ (c .loop-test .left) (c .before .loop .inv)
 

@@ -4,7 +4,7 @@ use Prim.Native.Nat.{_-_, _≤_}
 use native.Mathlib.Omega.{arith}
 use borrow.Author.Needs.{needs}
 use Rattle.order.specs.Order.{inOrder}
-use Rattle.search.specs.InTable.{EachRow, SplitRow, row-small, rows-none, lent-length, lent-low, rows-next, rows-all}
+use Rattle.search.specs.RowsColumns.{EachRow, SplitRow, row-small, rows-none, lent-length, lent-low, rows-next, rows-all}
 use Rattle.search.proofs.rows.split_rows.Statement.{statement}
 use Rattle.search.proofs.rows.split_rows.Tie as tie
 use Rattle.search.proofs.rows.split_rows.Reads as reads
@@ -17,55 +17,42 @@ Inv-loop sets n size first last cells₀ v₀ cells v = (v ≤ n) × EachRow (λ
 abbrev μ-loop : tie.MeasureT-loop
 μ-loop sets n size first last cells₀ v₀ cells v = n - v
 
--- src/rows.rt:104:5
 loop-holds : tie.Need-loop-holds Inv-loop μ-loop
 loop-holds c = (search needs, rows-none)
 
--- src/rows.rt:105:20
 mul-from : tie.Need-mul-from Inv-loop μ-loop
 mul-from c = omega (arith, row-small (c .before .loop .v) _ _ (c .loop-test .taken) (c .before .before .before .before .pre .1) (c .before .before .before .before .pre .2))
 
--- src/rows.rt:106:18
 add-to : tie.Need-add-to Inv-loop μ-loop
 add-to c = omega (arith, row-small (c .before .loop .v) _ _ (c .loop-test .taken) (c .before .before .before .before .pre .1) (c .before .before .before .before .pre .2))
 
--- src/rows.rt:107:25
 mul-split-row : tie.Need-mul-split-row Inv-loop μ-loop
 mul-split-row c = omega (arith, row-small (c .before .loop .v) _ _ (c .loop-test .taken) (c .before .before .before .before .pre .1) (c .before .before .before .before .pre .2))
 
--- src/rows.rt:107:25
 sub-split-row : tie.Need-sub-split-row Inv-loop μ-loop
 sub-split-row c = search needs
 
--- src/rows.rt:107:25
 part-split-row-start : tie.Need-part-split-row-start Inv-loop μ-loop
 part-split-row-start c = search needs
 
--- src/rows.rt:107:25
 part-split-row-end : tie.Need-part-split-row-end Inv-loop μ-loop
 part-split-row-end c = omega (arith, row-small (c .before .loop .v) _ _ (c .loop-test .taken) (c .before .before .before .before .pre .1) (c .before .before .before .before .pre .2), c .before .before .before .before .pre .3, c .before .loop .inv .1 .same-length)
 
--- src/rows.rt:107:9
 split-row-requires : tie.Need-split-row-requires Inv-loop μ-loop
 split-row-requires c κs = (c .before .before .before .before .before .pre .0, c .before .before .before .before .before .pre .4, c .before .before .before .before .before .pre .5, omega (arith, lent-length (c .before .before .before .before .before .pre .3) (c .before .loop-test .taken) (c .before .before .loop .inv .1), c .before .before .before .before .before .pre .2), lent-low (c .before .before .before .before .before .pre .3) (c .before .loop-test .taken) (c .before .before .loop .inv .1) (c .before .before .before .before .before .pre .6))
 
--- src/rows.rt:108:9
 add-v : tie.Need-add-v Inv-loop μ-loop
 add-v c = omega (arith, c .before .before .before .before .loop-test .taken, c .before .before .before .before .before .before .before .before .pre .1)
 
--- src/rows.rt:104:5
 loop-less : tie.Need-loop-less Inv-loop μ-loop
 loop-less c = search needs
 
--- src/rows.rt:104:5
 loop-again : tie.Need-loop-again Inv-loop μ-loop
 loop-again c = (omega (arith, c .before .before .before .before .loop-test .taken), rows-next (c .before .before .before .before .before .before .before .before .pre .3) (c .before .before .before .before .loop-test .taken) (c .before .before .before .before .before .loop .inv .1) (c .before .before .split-row .ensures .same-length) (c .before .before .split-row .ensures))
 
--- src/rows.rt:98:1
 same-length : tie.Need-same-length Inv-loop μ-loop
 same-length c = c .before .loop .inv .1 .same-length
 
--- src/rows.rt:98:1
 returns : tie.Need-returns Inv-loop μ-loop
 returns c = rows-all (c .before .loop .inv .1) (omega (arith, c .loop-test .left, c .before .loop .inv .0))
 

@@ -11,27 +11,21 @@ use Rattle.search.proofs.rows.start_cell.Lts as lts
 use Rattle.subset.proofs.Subset.is_part_of.Reads as is-part-of-reads
 use Rattle.subset.proofs.Subset.size.Reads as size-reads
 
--- src/rows.rt:25:9
 returns : tie.Need-returns
 returns c = start-empty _ _ (c .if1 .taken)
 
--- src/rows.rt:28:8
 is-part-of-requires : tie.Need-is-part-of-requires
 is-part-of-requires c κs = search needs
 
--- src/rows.rt:29:12
 size-requires : tie.Need-size-requires
 size-requires c κs = search needs
 
--- src/rows.rt:30:13
 returns-2 : tie.Need-returns-2
 returns-2 c = start-one _ _ (c .before .before .before .before .if1 .left) (sym (c .before .before .before .is-part-of .ensures) ∙ c .before .before .if2 .taken) (sym (c .before .size .ensures) ∙ c .if3 .taken)
 
--- src/rows.rt:32:9
 returns-3 : tie.Need-returns-3
 returns-3 c = start-more _ _ (c .before .before .before .before .if1 .left) (sym (c .before .before .before .is-part-of .ensures) ∙ c .before .before .if2 .taken) (λ e. c .if3 .left (c .before .size .ensures ∙ e))
 
--- src/rows.rt:21:1
 returns-4 : tie.Need-returns-4
 returns-4 c = start-apart _ _ (c .before .before .if1 .left) (sym (c .before .is-part-of .ensures) ∙ c .if2 .left)
 

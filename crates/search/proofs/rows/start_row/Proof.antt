@@ -18,43 +18,33 @@ Inv-loop landings row₀ w₀ row w = (w ≤ length row₀) × ValuesTo (startCe
 abbrev μ-loop : tie.MeasureT-loop
 μ-loop landings row₀ w₀ row w = length row₀ - w
 
--- src/rows.rt:43:5
 loop-holds : tie.Need-loop-holds Inv-loop μ-loop
 loop-holds c = (search needs, no-values)
 
--- src/rows.rt:44:39
 cast-start-cell : tie.Need-cast-start-cell Inv-loop μ-loop
 cast-start-cell c = search needs
 
--- src/rows.rt:44:18
 start-cell-requires : tie.Need-start-cell-requires Inv-loop μ-loop
 start-cell-requires c κs = search needs
 
--- src/rows.rt:44:9
 mul-row : tie.Need-mul-row Inv-loop μ-loop
 mul-row c = search needs
 
--- src/rows.rt:44:9
 slice-write-row : tie.Need-slice-write-row Inv-loop μ-loop
 slice-write-row c = search needs
 
--- src/rows.rt:45:9
 add-w : tie.Need-add-w Inv-loop μ-loop
 add-w c = search needs
 
--- src/rows.rt:43:5
 loop-less : tie.Need-loop-less Inv-loop μ-loop
 loop-less c = search needs
 
--- src/rows.rt:43:5
 loop-again : tie.Need-loop-again Inv-loop μ-loop
 loop-again c = (omega (arith, c .before .before .loop .inv .1 .same-length, c .before .loop-test .taken), next-value (c .before .loop-test .taken) (c .start-cell .ensures) (c .before .before .loop .inv .1))
 
--- src/rows.rt:38:1
 same-length : tie.Need-same-length Inv-loop μ-loop
 same-length c = search needs
 
--- src/rows.rt:38:1
 returns : tie.Need-returns Inv-loop μ-loop
 returns c = all-values (c .before .loop .inv .0) (c .loop-test .left) (c .before .loop .inv .1)
 

@@ -3,7 +3,7 @@
 use Prim.Native.Nat.{_-_, _≤_}
 use native.Mathlib.Omega.{arith}
 use borrow.Author.Needs.{needs}
-use Rattle.search.specs.InTable.{EachRow, StartRow, started-row, row-small, rows-none, lent-length, rows-next, rows-all}
+use Rattle.search.specs.RowsColumns.{EachRow, StartRow, started-row, row-small, rows-none, lent-length, rows-next, rows-all}
 use Rattle.search.proofs.rows.start_rows.Statement.{statement}
 use Rattle.search.proofs.rows.start_rows.Tie as tie
 use Rattle.search.proofs.rows.start_rows.Reads as reads
@@ -17,67 +17,51 @@ Inv-loop landings n size cells₀ v₀ cells v = (v ≤ n) × EachRow (StartRow 
 abbrev μ-loop : tie.MeasureT-loop
 μ-loop landings n size cells₀ v₀ cells v = n - v
 
--- src/rows.rt:88:5
 loop-holds : tie.Need-loop-holds Inv-loop μ-loop
 loop-holds c = (search needs, rows-none)
 
--- src/rows.rt:89:20
 mul-from : tie.Need-mul-from Inv-loop μ-loop
 mul-from c = omega (arith, row-small (c .before .loop .v) _ _ (c .loop-test .taken) (c .before .before .before .before .pre .0) (c .before .before .before .before .pre .1))
 
--- src/rows.rt:90:18
 add-to : tie.Need-add-to Inv-loop μ-loop
 add-to c = omega (arith, row-small (c .before .loop .v) _ _ (c .loop-test .taken) (c .before .before .before .before .pre .0) (c .before .before .before .before .pre .1))
 
--- src/rows.rt:91:32
 mul-terminals-in : tie.Need-mul-terminals-in Inv-loop μ-loop
 mul-terminals-in c = search needs
 
--- src/rows.rt:91:32
 shared-slice-read-terminals-in : tie.Need-shared-slice-read-terminals-in Inv-loop μ-loop
 shared-slice-read-terminals-in c = search needs
 
--- src/rows.rt:91:19
 terminals-in-requires : tie.Need-terminals-in-requires Inv-loop μ-loop
 terminals-in-requires c κs = search needs
 
--- src/rows.rt:91:46
 mul-start-row : tie.Need-mul-start-row Inv-loop μ-loop
 mul-start-row c = omega (arith, row-small (c .before .before .before .loop .v) _ _ (c .before .before .loop-test .taken) (c .before .before .before .before .before .before .pre .0) (c .before .before .before .before .before .before .pre .1))
 
--- src/rows.rt:91:46
 sub-start-row : tie.Need-sub-start-row Inv-loop μ-loop
 sub-start-row c = search needs
 
--- src/rows.rt:91:46
 part-start-row-start : tie.Need-part-start-row-start Inv-loop μ-loop
 part-start-row-start c = search needs
 
--- src/rows.rt:91:46
 part-start-row-end : tie.Need-part-start-row-end Inv-loop μ-loop
 part-start-row-end c = omega (arith, row-small (c .before .before .before .loop .v) _ _ (c .before .before .loop-test .taken) (c .before .before .before .before .before .before .pre .0) (c .before .before .before .before .before .before .pre .1), c .before .before .before .before .before .before .pre .2, c .before .before .before .loop .inv .1 .same-length)
 
--- src/rows.rt:91:9
 start-row-requires : tie.Need-start-row-requires Inv-loop μ-loop
 start-row-requires c κs = omega (arith, lent-length (c .before .before .before .before .before .before .before .pre .2) (c .before .before .before .loop-test .taken) (c .before .before .before .before .loop .inv .1), c .before .before .before .before .before .before .before .pre .1)
 
--- src/rows.rt:92:9
 add-v : tie.Need-add-v Inv-loop μ-loop
 add-v c = omega (arith, c .before .before .before .before .before .before .loop-test .taken, c .before .before .before .before .before .before .before .before .before .before .pre .0)
 
--- src/rows.rt:88:5
 loop-less : tie.Need-loop-less Inv-loop μ-loop
 loop-less c = search needs
 
--- src/rows.rt:88:5
 loop-again : tie.Need-loop-again Inv-loop μ-loop
 loop-again c = (omega (arith, c .before .before .before .before .before .before .loop-test .taken), rows-next (c .before .before .before .before .before .before .before .before .before .before .pre .2) (c .before .before .before .before .before .before .loop-test .taken) (c .before .before .before .before .before .before .before .loop .inv .1) (c .before .cells .given .0) (started-row (c .before .before .before .before .terminals-in .ensures) (c .before .before .start-row .ensures)))
 
--- src/rows.rt:83:1
 same-length : tie.Need-same-length Inv-loop μ-loop
 same-length c = c .before .loop .inv .1 .same-length
 
--- src/rows.rt:83:1
 returns : tie.Need-returns Inv-loop μ-loop
 returns c = rows-all (c .before .loop .inv .1) (omega (arith, c .loop-test .left, c .before .loop .inv .0))
 

@@ -13,27 +13,21 @@ use Rattle.search.proofs.column.put_column.Reads as put-column-reads
 use Rattle.search.proofs.column.settle.Reads as settle-reads
 use Rattle.search.proofs.column.take_column.Reads as take-column-reads
 
--- src/sets.rt:49:5
 take-column-requires : tie.Need-take-column-requires
 take-column-requires c κs = search needs
 
--- src/sets.rt:50:5
 settle-requires : tie.Need-settle-requires
 settle-requires c κs = (taken-arcs (length (now (c .before .before .before .before .before .before .before .before .before .before .before .args .column))) (c .before .before .before .before .before .before .before .before .before .before .before .args .size) (c .before .before .before .before .before .before .before .before .before .before .before .args .w) (now (c .before .before .before .before .before .before .before .before .before .before .before .args .cells)) (c .before .before .before .take-column .ensures) (c .before .before .before .before .before .before .before .before .before .before .before .pre .2), taken-low (length (now (c .before .before .before .before .before .before .before .before .before .before .before .args .column))) (c .before .before .before .before .before .before .before .before .before .before .before .args .size) (c .before .before .before .before .before .before .before .before .before .before .before .args .w) (now (c .before .before .before .before .before .before .before .before .before .before .before .args .cells)) (c .before .before .before .take-column .ensures) (c .before .before .before .before .before .before .before .before .before .before .before .pre .0) (c .before .before .before .before .before .before .before .before .before .before .before .pre .1) (c .before .before .before .before .before .before .before .before .before .before .before .pre .3))
 
--- src/sets.rt:51:5
 put-column-requires : tie.Need-put-column-requires
 put-column-requires c κs = (c .before .before .before .before .before .before .before .before .before .before .before .before .before .before .before .before .pre .0, settled-fits (length (now (c .before .before .before .before .before .before .before .before .before .before .before .before .before .before .before .before .args .column))) (c .before .before .before .before .before .before .before .before .before .before .before .before .before .before .before .before .args .size) (c .before .before .before .before .before .before .before .before .before .before .before .before .before .before .before .before .args .w) (now (c .before .before .before .before .before .before .before .before .before .before .before .before .before .before .before .before .args .cells)) (c .before .before .before .before .before .before .before .before .take-column .ensures) (c .before .before .before .before .settle .ensures) (c .before .before .before .before .before .before .before .before .before .before .before .before .before .before .before .before .pre .1))
 
--- src/sets.rt:34:1
 same-length : tie.Need-same-length
 same-length c = search needs
 
--- src/sets.rt:34:1
 same-length-2 : tie.Need-same-length-2
 same-length-2 c = search needs
 
--- src/sets.rt:34:1
 returns : tie.Need-returns
 returns c = set-closed (c .before .before .before .before .before .before .before .before .before .before .before .before .before .before .before .before .before .before .before .pre .2) (c .before .before .before .before .before .before .before .before .before .before .before .take-column .ensures) (c .before .before .before .before .before .before .before .settle .ensures) (c .before .before .put-column .ensures)
 

@@ -6,6 +6,7 @@ use mathlib.Core.Logic.{⊎-elim}
 use native.Mathlib.Omega.{arith}
 use lib.ListN.{length}
 use borrow.Author.Needs.{needs}
+use Rattle.lent_tables.specs.SheetTables.{arcsAlone}
 use Rattle.order.specs.Order.{inOrder}
 use Rattle.search.specs.InOrder.{in-order}
 use Rattle.search.specs.ClosedCells.{SetsClosed, set-ready, sets-ready, sets-none, sets-over, sets-next, sets-all}
@@ -18,7 +19,7 @@ use Rattle.search.proofs.sets.set_at.Reads as set-at-reads
 
 abbrev Inv-loop : tie.InvT-loop
 Inv-loop sets starts ends weights arcs size first last cells₀ column₀ position₀ cells column position =
-    (first ≤ position) × (position ≤ last) × (length column ≡ length column₀) × SetsClosed (length column₀) arcs size starts ends weights inOrder first position cells₀ cells
+    (first ≤ position) × (position ≤ last) × (length column ≡ length column₀) × SetsClosed (length column₀) arcs size (arcsAlone starts ends weights) inOrder first position cells₀ cells
 
 abbrev μ-loop : tie.MeasureT-loop
 μ-loop sets starts ends weights arcs size first last cells₀ column₀ position₀ cells column position =

@@ -1,13 +1,13 @@
--- `table::cell` meets its contract.
+-- `cost_table::cell` meets its contract.
 -- Assumes nothing.
 use borrow.Author.Needs.{needs}
 use Prim.Native.Nat.{ℕ, _*_}
 use mathlib.Core.Path.{ap}
 use native.Mathlib.Omega.{arith}
 use denote.Ref.{now}
-use Rattle.table.specs.Cells.{cellIn}
-use Rattle.table.proofs.cell.Statement.{statement}
-use Rattle.table.proofs.cell.Tie as tie
+use Rattle.cost_table.specs.Cells.{cellIn}
+use Rattle.cost_table.proofs.cell.Statement.{statement}
+use Rattle.cost_table.proofs.cell.Tie as tie
 
 sets-of-requires : tie.Need-sets-of-requires
 sets-of-requires c κs = search needs

@@ -1,13 +1,13 @@
--- `table::cheapest::cheapest_node` meets its contract. The loop's invariant: the site so far is the lowest of the cheapest of the first v sites.
+-- `cost_table::cheapest::cheapest_node` meets its contract. The loop's invariant: the site so far is the lowest of the cheapest of the first v sites.
 -- The measure is the number of sites left.
 -- Assumes nothing.
 use Prim.Native.Nat.{_≤_, _-_}
 use native.Mathlib.Omega.{arith}
 use denote.Ref.{now}
-use Rattle.table.specs.Cheapest.{columnIn, LowestTo}
-use Rattle.table.specs.Lowest.{lowest-one, lowest-next, lowest-all}
-use Rattle.table.proofs.cheapest.cheapest_node.Statement.{statement}
-use Rattle.table.proofs.cheapest.cheapest_node.Tie as tie
+use Rattle.cost_table.specs.Cheapest.{columnIn, LowestTo}
+use Rattle.cost_table.specs.Lowest.{lowest-one, lowest-next, lowest-all}
+use Rattle.cost_table.proofs.cheapest.cheapest_node.Statement.{statement}
+use Rattle.cost_table.proofs.cheapest.cheapest_node.Tie as tie
 
 abbrev Inv-loop : tie.InvT-loop
 Inv-loop cells n k w node₀ v₀ node v = (v ≤ n) × LowestTo (columnIn cells k (w .0)) v node

@@ -1,5 +1,6 @@
 // The cheapest site of a set of stations: the lowest of the sites whose cell of the set is least.
 use crate::cell;
+use limits::Cost;
 use subset::Subset;
 ghost use mathlib.Core.Path.{_≡_};
 ghost use mathlib.Core.Bool.{cond};
@@ -7,10 +8,10 @@ ghost use Prim.Native.Nat.{_*_, _^_, _≤_, _<_};
 ghost use lib.Dec.{ltb};
 ghost use lib.ListN.{length};
 ghost use Rattle.limits.specs.Limits.{maxTerminals};
-ghost use Rattle.table.specs.Cheapest.{columnIn, LowestTo};
+ghost use Rattle.cost_table.specs.Cheapest.{columnIn, LowestTo};
 
 // The second of two sites where its cell of the set w is less, else the first.
-fn cheaper(cells: &[u32], n: u16, k: u8, w: Subset, first: u16, second: u16) -> u16
+fn cheaper(cells: &[Cost], n: u16, k: u8, w: Subset, first: u16, second: u16) -> u16
     requires { ⌜ (k ≤ maxTerminals) × (n * 2 ^ k ≤ length (now cells)) × (w .0 < 2 ^ k) × (first < n) × (second < n) ⌝ }
     ensures { λ r. ⌜ r ≡ cond (ltb (columnIn (now (cells .entry)) k (w .0) second) (columnIn (now (cells .entry)) k (w .0) first)) second first ⌝ }
 {
@@ -21,7 +22,7 @@ fn cheaper(cells: &[u32], n: u16, k: u8, w: Subset, first: u16, second: u16) -> 
 }
 
 // The cheapest of n sites, for k stations and the set w.
-pub fn cheapest_node(cells: &[u32], n: u16, k: u8, w: Subset) -> u16
+pub fn cheapest_node(cells: &[Cost], n: u16, k: u8, w: Subset) -> u16
     requires { ⌜ (1 ≤ n) × (k ≤ maxTerminals) × (n * 2 ^ k ≤ length (now cells)) × (w .0 < 2 ^ k) ⌝ }
     ensures { λ r. ⌜ LowestTo (columnIn (now (cells .entry)) k (w .0)) n r ⌝ }
 {

@@ -15,7 +15,7 @@ use Rattle.lists.specs.Numbers.{numbers, length-numbers, getD-number, length-va
 use Rattle.lists.specs.Over.{over, getD-over}
 use Rattle.graph.specs.Graph.{Graph}
 use Rattle.graph.specs.LeastTotals.{leastCell, IsCostTable}
-use Rattle.table.specs.Cells.{cellIn, cellsOf, costTable}
+use Rattle.cost_table.specs.Cells.{cellIn, cellsOf, costTable}
 
 -- ---- places
 

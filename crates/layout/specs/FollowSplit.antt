@@ -17,11 +17,12 @@ use Rattle.lists.specs.Tests.{true-fact, false-not-fact}
 use Rattle.lists.specs.Over.{over}
 use Rattle.subset.specs.Sets.{full, rest}
 use Rattle.subset.specs.Parts.{full-ne, rest-difference}
+use Rattle.lent_tables.specs.SheetTables.{SheetTables, arcTablesOf, arcs-long}
 use Rattle.graph.specs.Graph.{Graph}
-use Rattle.graph.specs.InTables.{graphIn, end-in}
+use Rattle.graph.specs.HeldGraph.{graphIn, end-in}
 use Rattle.graph.specs.Layout.{isDone, fits, splits}
 use Rattle.graph.specs.Theorems.{layout-is-least}
-use Rattle.table.specs.Cells.{cellIn}
+use Rattle.cost_table.specs.Cells.{cellIn}
 use Rattle.layout.specs.Steps.{doneAt, fitsIn, splitsIn, foundAs, ArcsHeld}
 use Rattle.layout.specs.Plan.{cellsFor, laid, Ready, Placed, Unfollowed, Stored}
 use Rattle.layout.specs.Walk.{Walked, Stopped}
@@ -33,67 +34,65 @@ use Rattle.layout.specs.Walking.{walked-arc}
 use Rattle.layout.specs.declared.steps.Found.{Found}
 use Rattle.layout.specs.declared.steps.Found.the-variants.{At, Nothing}
 
-module _ (n k m : ℕ) (starts ends weights landings cells : List ℕ) (ready : Ready n k m starts ends weights landings cells) where
+module _ {n k m : ℕ} {t : SheetTables} {cells : List ℕ} (ready : Ready n k m t cells) where
   -- the graph that the tables hold
   abbrev G : Graph
-  G = graphIn n k m starts ends weights landings
+  G = graphIn n k m t
 
   -- the cell of a node and a set lies in the table
   pub cell-in : (v w : ℕ) → v < n → w < 2 ^ k → v * 2 ^ k + w < length cells
   cell-in v w on small = lt-of-lt-of-le (digits-lt on small) (ready .long-cells)
 
   -- an arc of the tables ends at a node
-  end-lt : (e : ℕ) → e < m → getD ends e 0 < n
-  end-lt e l = subst (λ (u : ℕ). u < n) (end-in n k m starts ends weights landings e l) (ready .finished .sound .end-lt e l)
+  end-lt : (e : ℕ) → e < m → getD (t .ends) e 0 < n
+  end-lt e l = subst (λ (u : ℕ). u < n) (end-in n k m t e l) (ready .finished .sound .end-lt e l)
 
   -- ---- following
 
-  module _ (v w at : ℕ) (out then : List ℕ) (node place : ℕ) (h : Walked G cells v w at out then node place) where
+  module _ {v w at : ℕ} {out then : List ℕ} {node place : ℕ} (h : Walked G cells v w at out then node place) where
     -- the tables hold the landing entry, the arcs and the cells that are looked at
-    pub node-held : node < length landings
-    node-held = lt-of-lt-of-le (h .placed .node) (ready .long-landings)
+    pub node-held : node < length (t .landings)
+    node-held = lt-of-lt-of-le (h .placed .node) (ready .long .landings)
 
-    pub arcs-held : ArcsHeld k m starts ends weights cells node w
+    pub arcs-held : ArcsHeld k m (arcTablesOf t) cells node w
     arcs-held = record {
       terminals = ready .terminals;
-      long-starts = ready .long-starts;
-      long-ends = ready .long-ends;
-      long-weights = ready .long-weights;
+      long = arcs-long (ready .long);
       here = cell-in node w (h .placed .node) (h .placed .set);
-      there = λ e l. cell-in (getD ends e 0) w (end-lt e l) (h .placed .set);
+      there = λ e l. cell-in (getD (t .ends) e 0) w (end-lt e l) (h .placed .set);
     }
 
-    module _ (done : Bool) (test : done ≡ doneAt (getD landings node 0) w) where
+    module _ {done : Bool} (test : done ≡ doneAt (getD (t .landings) node 0) w) where
       same-test : (b : Bool) → done ≡ b → isDone G node w ≡ b
-      same-test b t = done-in n k m starts ends weights landings node w (h .placed .node) (h .placed .set) ∙ sym test ∙ t
+      same-test b is = done-in n k m t node w (h .placed .node) (h .placed .set) ∙ sym test ∙ is
 
       -- nothing is added
       pub walk-ends : done ≡ true → Stopped G cells v w at out then node place true
-      walk-ends t = record { walked = h; ended = λ _. true-fact (same-test true t); unfollowed = λ q. absurd (true≢false q) }
+      walk-ends is = record { walked = h; ended = λ _. true-fact (same-test true is); unfollowed = λ q. absurd (true≢false q) }
 
-      module _ (more : done ≡ false) (found : Found) (search : found ≡ foundAs (first (fitsIn k m starts ends weights cells node w) m)) where
+      module _ (more : done ≡ false) {found : Found} (search : found ≡ foundAs (first (fitsIn k m (arcTablesOf t) cells node w) m)) where
         undone : T (not (isDone G node w))
         undone = false-not-fact (same-test false more)
 
         -- an arc is followed
-        module _ (e : ℕ) (arc : found ≡ At e) where
+        module _ {e : ℕ} (arc : found ≡ At e) where
           fitting : first (fits G (cellsFor G cells) noCost node w) m ≡ some e
-          fitting = found-some (first (fitsIn k m starts ends weights cells node w) m) e (sym arc ∙ search)
+          fitting = found-some (first (fitsIn k m (arcTablesOf t) cells node w) m) e (sym arc ∙ search)
 
           pub arc-held : e < m
           arc-held = arc-on G cells (ready .finished) node w place (length then) (h .placed) undone e fitting
 
-          same-end : G .end e ≡ getD ends e 0
-          same-end = end-in n k m starts ends weights landings e arc-held
+          same-end : G .end e ≡ getD (t .ends) e 0
+          same-end = end-in n k m t e arc-held
 
           pub arc-fits : place < length then
           arc-fits = arc-room G cells (ready .finished) node w place (length then) (h .placed) undone e fitting
 
-          pub end-walked : Walked G cells v w at out (set then place e) (getD ends e 0) (place + 1)
+          pub end-walked : Walked G cells v w at out (set then place e) (getD (t .ends) e 0) (place + 1)
           end-walked = subst (λ (u : ℕ). Walked G cells v w at out (set then place e) u (place + 1)) same-end
               (walked-arc G cells v w at out then node place h (ready .finished) undone e fitting)
 
-          pub end-falls : load k cells (getD ends e 0) w < load k cells node w
+          pub end-falls : load k cells (getD (t .ends) e 0) w < load k cells node w
           end-falls = subst (λ (u : ℕ). load k cells u w < load k cells node w) same-end
               (arc-falls G cells (ready .finished) node w place (length then) (h .placed) undone e fitting)
 
@@ -104,48 +103,48 @@ module _ (n k m : ℕ) (starts ends weights landings cells : List ℕ) (ready : 
           ended = λ q. absurd (false≢true q);
           unfollowed = λ _. record {
             undone = undone;
-            no-arc = found-none (first (fitsIn k m starts ends weights cells node w) m) (sym nothing ∙ search);
+            no-arc = found-none (first (fitsIn k m (arcTablesOf t) cells node w) m) (sym nothing ∙ search);
           };
         }
 
   -- ---- splitting
 
-  module _ (v w at : ℕ) (out : List ℕ) (p : Placed G cells v w at (length out)) where
-    module _ (u : Unfollowed G cells v w) (found : Found) (search : found ≡ foundAs (first (splitsIn k cells v w) w)) where
+  module _ (out : List ℕ) {v w at : ℕ} (p : Placed G cells v w at (length out)) where
+    module _ (u : Unfollowed G cells v w) {found : Found} (search : found ≡ foundAs (first (splitsIn k cells v w) w)) where
       -- a part splits the set
       pub split-found : found ≡ Nothing → ⊥
       split-found nothing = part-there G cells (ready .finished) v w at (length out) p (u .undone) (u .no-arc)
           (found-none (first (splitsIn k cells v w) w) (sym nothing ∙ search))
 
-      module _ (y : ℕ) (part : found ≡ At y) where
+      module _ {y : ℕ} (part : found ≡ At y) where
         splitting : first (splits G (cellsFor G cells) v w) w ≡ some y
         splitting = found-some (first (splitsIn k cells v w) w) y (sym part ∙ search)
 
         pub first-placed : Placed G cells v y at (length out)
         first-placed = part-placed G cells (ready .finished) v w at (length out) p (u .undone) (u .no-arc) y splitting
 
-        pub first-falls : (t : ℕ) → load k cells v w + load k cells v w ≡ t → load k cells v y + load k cells v y + 1 < t
+        pub first-falls : (x : ℕ) → load k cells v w + load k cells v w ≡ x → load k cells v y + load k cells v y + 1 < x
         first-falls = part-falls G cells (ready .finished) v w at (length out) p (u .undone) (u .no-arc) y splitting
 
         -- the rest, as code takes it
-        module _ (z : ℕ) (others : z ≡ rest w y) where
+        module _ {z : ℕ} (others : z ≡ rest w y) where
           same-rest : z ≡ w - y
           same-rest =
               others ∙ rest-difference w y (part-within G cells (ready .finished) v w at (length out) p (u .undone) (u .no-arc) y splitting)
 
-          pub others-falls : (t : ℕ) → load k cells v w + load k cells v w ≡ t → load k cells v z + load k cells v z + 1 < t
-          others-falls t h = subst (λ (x : ℕ). load k cells v x + load k cells v x + 1 < t) (sym same-rest)
-              (rest-falls G cells (ready .finished) v w at (length out) p (u .undone) (u .no-arc) y splitting t h)
+          pub others-falls : (x : ℕ) → load k cells v w + load k cells v w ≡ x → load k cells v z + load k cells v z + 1 < x
+          others-falls x h = subst (λ (r : ℕ). load k cells v r + load k cells v r + 1 < x) (sym same-rest)
+              (rest-falls G cells (ready .finished) v w at (length out) p (u .undone) (u .no-arc) y splitting x h)
 
-          module _ (mid : ℕ) (then : List ℕ) (s : Stored (laid G cells v y) at mid out then) where
+          module _ {mid : ℕ} {then : List ℕ} (s : Stored (laid G cells v y) at mid out then) where
             pub others-placed : Placed G cells v z mid (length then)
             others-placed =
                 subst (λ (x : ℕ). Placed G cells v x mid (length then)) (sym same-rest)
                 (subst (Placed G cells v (w - y) mid) (sym (stored-length (laid G cells v y) at mid out then s))
                 (rest-placed G cells (ready .finished) v w at (length out) p (u .undone) (u .no-arc) y splitting mid (s .place)))
 
-            pub both-stored : (r : ℕ) (out' : List ℕ) → Stored (laid G cells v z) mid r then out' → Stored (laid G cells v w) at r out out'
-            both-stored r out' = stored-both (laid G cells v w) (laid G cells v y) (laid G cells v z) at mid r out then out'
+            pub both-stored : {r : ℕ} {out' : List ℕ} → Stored (laid G cells v z) mid r then out' → Stored (laid G cells v w) at r out out'
+            both-stored {r} {out'} = stored-both (laid G cells v w) (laid G cells v y) (laid G cells v z) at mid r out then out'
                 (both-laid G cells (ready .finished) v w at (length out) p (u .undone) (u .no-arc) y splitting
                 ∙ ap (λ (x : ℕ). laid G cells v y ++ laid G cells v x) (sym same-rest)) s
 

@@ -1,13 +1,13 @@
--- `table::cheapest::cheaper` meets its contract: each site's cell of the set lies in the table, and the test compares the two.
+-- `cost_table::cheapest::cheaper` meets its contract: each site's cell of the set lies in the table, and the test compares the two.
 -- Assumes nothing.
 use mathlib.Core.Path.{sym}
 use denote.Ref.{now}
 use borrow.Author.Tests.{lt-ltb, le-ltb}
-use Rattle.table.specs.Cheapest.{columnIn}
-use Rattle.table.specs.Rows.{place-lt}
-use Rattle.table.specs.Lowest.{chosen}
-use Rattle.table.proofs.cheapest.cheaper.Statement.{statement}
-use Rattle.table.proofs.cheapest.cheaper.Tie as tie
+use Rattle.cost_table.specs.Cheapest.{columnIn}
+use Rattle.cost_table.specs.Rows.{place-lt}
+use Rattle.cost_table.specs.Lowest.{chosen}
+use Rattle.cost_table.proofs.cheapest.cheaper.Statement.{statement}
+use Rattle.cost_table.proofs.cheapest.cheaper.Tie as tie
 
 cell-requires : tie.Need-cell-requires
 cell-requires c κs = let p = c .before .pre in (p .0, place-lt _ _ _ _ _ (p .4) (p .2) (p .1))

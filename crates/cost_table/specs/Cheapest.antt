@@ -2,7 +2,7 @@
 -- Assumes nothing.
 use Prim.Native.Nat.{ℕ, _^_, _≤_, _<_}
 use mathlib.Core.List.{List}
-use Rattle.table.specs.Cells.{cellIn}
+use Rattle.cost_table.specs.Cells.{cellIn}
 
 -- the cells of the set w, by node
 abbrev pub columnIn : List ℕ → (k w : ℕ) → ℕ → ℕ

@@ -14,7 +14,7 @@ use Rattle.limits.specs.Limits.{maxNodes, maxSubsets}
 use Rattle.lists.specs.Numbers.{numbers}
 use Rattle.subset.specs.Sets.{Part, terminalsIn}
 use Rattle.subset.specs.Parts.{part-le, difference-part}
-use Rattle.table.specs.Cells.{cellIn}
+use Rattle.cost_table.specs.Cells.{cellIn}
 use Rattle.search.specs.Start.{startCell}
 use Rattle.search.specs.WorkingNone.{workingNone}
 use Rattle.search.specs.Ranges.{Ordered, OneSize, Outside, Inside, shorter, inside-or-out, part-outside}

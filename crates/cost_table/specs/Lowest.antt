@@ -7,7 +7,7 @@ use native.Mathlib.Omega.{arith}
 use lib.Dec.{ltb, ltb→lt, nltb→le}
 use Rattle.lists.specs.Tests.{by-fact}
 use Rattle.lists.specs.Below.{below-more}
-use Rattle.table.specs.Cheapest.{LowestTo}
+use Rattle.cost_table.specs.Cheapest.{LowestTo}
 
 module _ (f : ℕ → ℕ) where
   -- of one number
