@@ -13,7 +13,7 @@ use Rattle.answer.specs.Stated.{stated, statedEnquiry}
 use Rattle.answer.specs.declared.Answer.{Answer}
 use Rattle.answer.specs.declared.Enquiry.{Enquiry}
 use Rattle.graph.specs.Graph.{Graph}
-use Rattle.sheet.specs.Fields.{Bytes}
+use Rattle.number_fields.specs.Fields.{Bytes}
 use Rattle.network.specs.Network.{graphOf}
 use Rattle.mission.specs.Runs.{GoodWith}
 use Rattle.engine.proofs.planning.plan_sheet.Kinds as plan-kinds

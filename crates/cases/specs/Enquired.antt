@@ -15,14 +15,14 @@ use Rattle.graph.specs.Graph.{Graph}
 use Rattle.graph.specs.Subtrees.{Subtree, Covers, total}
 use Rattle.graph.specs.LeastTotals.{NoSubtree, Least, IsCostTable, Room}
 use Rattle.graph.specs.Theorems.{cell-is-least}
-use Rattle.sheet.specs.Fields.{Bytes}
+use Rattle.number_fields.specs.Fields.{Bytes}
 use Rattle.sheet.specs.Good.{IsSheet, good-is-sheet}
 use Rattle.sheet.specs.Verdict.{good, verdict}
 use Rattle.sheet.specs.declared.record.Record.{Record}
 use Rattle.network.specs.Network.{graphOf}
 use Rattle.network.specs.OfSheets.{sheet-room}
-use Rattle.table.specs.Cells.{cellIn, costTable}
-use Rattle.table.specs.Rows.{length-table, table-over}
+use Rattle.cost_table.specs.Cells.{cellIn, costTable}
+use Rattle.cost_table.specs.Rows.{length-table, table-over}
 use Rattle.mission.specs.Runs.{EngineTables, GoodWith}
 use Rattle.mission.specs.PointOne.{AsAfterPlan, EngineAnswers}
 use Rattle.engine.specs.Engine.{planningOf}

@@ -17,7 +17,7 @@ use Rattle.lists.specs.Find.{allOf, all-entries}
 use Rattle.lists.specs.Listed.{listed-every}
 use Rattle.lists.specs.Over.{over, getD-over}
 use Rattle.answer.specs.Stated.{Family, Stated, plan, refused, ofSearch}
-use Rattle.sheet.specs.Fields.{Bytes, number16, number32}
+use Rattle.number_fields.specs.Fields.{Bytes, number16, number32}
 use Rattle.sheet.specs.Verdict.{good, verdict, readFor}
 use Rattle.sheet.specs.Worked.{sheetB, sheetD}
 use Rattle.sheet.specs.declared.record.Record.{Record}
@@ -87,8 +87,7 @@ reaches-B = found-reaches (graphOf 1 1 recordsB) (sheet-plannable sheetB bytes-B
 long-B : EngineLong 1 1 0 lent
 long-B = record {
   tables = record { starts = omega arith; ends = omega arith; weights = omega arith; landings = omega arith };
-  cells = omega arith;
-  marks = omega arith;
+  further = record { cells = omega arith; marks = omega arith };
 }
 
 buffer-B : BufferLong (graphOf 1 1 recordsB) (lent .buffer)

@@ -10,7 +10,8 @@ use lib.ListN.{length}
 use Rattle.answer.specs.Stated.{plan, refused, ofSheet, ofSearch, ofPlanFile}
 use Rattle.sheet.specs.Verdict.{Verdict, good, bad, verdict, readFor}
 use Rattle.sheet.specs.Worked.{sheetA, sheetB, sheetC, sheetD, sheetE, sheetF, sheetG, sheetH, sheetI, sheetJ}
-use Rattle.loader.specs.Tables.{tables, loaded}
+use Rattle.lent_tables.specs.SheetTables.{sheetTables}
+use Rattle.loader.specs.Loaded.{loaded}
 use Rattle.network.specs.Network.{graphOf}
 use Rattle.mission.specs.Runs.{ReaderTables, readerTables, EngineTables, engineTables, run}
 use Rattle.plan_reader.specs.Reader.{fileFault, treeFault, readingOf}
@@ -23,7 +24,7 @@ use Rattle.engine.specs.Engine.{Plan, planOf, planningOf}
 abbrev pub lent : EngineTables
 lent =
     engineTables
-    (tables (71 ∷ 71 ∷ 71 ∷ 71 ∷ 71 ∷ 71 ∷ []) (72 ∷ 72 ∷ 72 ∷ 72 ∷ 72 ∷ 72 ∷ []) (73 ∷ 73 ∷ 73 ∷ 73 ∷ 73 ∷ 73 ∷ []) (74 ∷ 74 ∷ 74 ∷ 74 ∷ 74 ∷ []))
+    (sheetTables (71 ∷ 71 ∷ 71 ∷ 71 ∷ 71 ∷ 71 ∷ []) (72 ∷ 72 ∷ 72 ∷ 72 ∷ 72 ∷ 72 ∷ []) (73 ∷ 73 ∷ 73 ∷ 73 ∷ 73 ∷ 73 ∷ []) (74 ∷ 74 ∷ 74 ∷ 74 ∷ 74 ∷ []))
     (
     75 ∷ 75 ∷ 75 ∷ 75 ∷ 75 ∷ 75 ∷ 75 ∷ 75 ∷
     75 ∷ 75 ∷ 75 ∷ 75 ∷ 75 ∷ 75 ∷ 75 ∷ 75 ∷
@@ -46,7 +47,7 @@ lentToReader = readerTables (lent .tables) (lent .marks)
 abbrev pub afterA : List ℕ → ReaderTables
 afterA marks =
     readerTables
-    (tables (0 ∷ 1 ∷ 1 ∷ 0 ∷ 0 ∷ 71 ∷ []) (1 ∷ 2 ∷ 3 ∷ 2 ∷ 3 ∷ 72 ∷ []) (4 ∷ 3 ∷ 3 ∷ 5 ∷ 6 ∷ 73 ∷ []) (4 ∷ 0 ∷ 1 ∷ 2 ∷ 74 ∷ []))
+    (sheetTables (0 ∷ 1 ∷ 1 ∷ 0 ∷ 0 ∷ 71 ∷ []) (1 ∷ 2 ∷ 3 ∷ 2 ∷ 3 ∷ 72 ∷ []) (4 ∷ 3 ∷ 3 ∷ 5 ∷ 6 ∷ 73 ∷ []) (4 ∷ 0 ∷ 1 ∷ 2 ∷ 74 ∷ []))
     marks
 
 -- the legs of a sheet's plan, in the order in which they are added
@@ -67,7 +68,7 @@ pub settled :
     × (planningOf sheetA lent
     ≡ run (plan 0 10 3)
     (engineTables
-    (tables (0 ∷ 1 ∷ 1 ∷ 0 ∷ 0 ∷ 71 ∷ []) (1 ∷ 2 ∷ 3 ∷ 2 ∷ 3 ∷ 72 ∷ []) (4 ∷ 3 ∷ 3 ∷ 5 ∷ 6 ∷ 73 ∷ []) (4 ∷ 0 ∷ 1 ∷ 2 ∷ 74 ∷ []))
+    (sheetTables (0 ∷ 1 ∷ 1 ∷ 0 ∷ 0 ∷ 71 ∷ []) (1 ∷ 2 ∷ 3 ∷ 2 ∷ 3 ∷ 72 ∷ []) (4 ∷ 3 ∷ 3 ∷ 5 ∷ 6 ∷ 73 ∷ []) (4 ∷ 0 ∷ 1 ∷ 2 ∷ 74 ∷ []))
     (
     0 ∷ 5 ∷ 6 ∷ 10 ∷ 0 ∷ 5 ∷ 6 ∷ 10 ∷
     0 ∷ 3 ∷ 3 ∷ 6 ∷ 4_294_967_295 ∷ 4_294_967_295 ∷ 4_294_967_295 ∷ 4_294_967_295 ∷
@@ -86,7 +87,7 @@ pub settled :
     × (planningOf sheetB lent
     ≡ run (plan 0 0 0)
     (engineTables
-    (tables (71 ∷ 71 ∷ 71 ∷ 71 ∷ 71 ∷ 71 ∷ []) (72 ∷ 72 ∷ 72 ∷ 72 ∷ 72 ∷ 72 ∷ []) (73 ∷ 73 ∷ 73 ∷ 73 ∷ 73 ∷ 73 ∷ []) (1 ∷ 74 ∷ 74 ∷ 74 ∷ 74 ∷ []))
+    (sheetTables (71 ∷ 71 ∷ 71 ∷ 71 ∷ 71 ∷ 71 ∷ []) (72 ∷ 72 ∷ 72 ∷ 72 ∷ 72 ∷ 72 ∷ []) (73 ∷ 73 ∷ 73 ∷ 73 ∷ 73 ∷ 73 ∷ []) (1 ∷ 74 ∷ 74 ∷ 74 ∷ 74 ∷ []))
     (
     0 ∷ 0 ∷
     75 ∷ 75 ∷ 75 ∷ 75 ∷ 75 ∷ 75 ∷ 75 ∷ 75 ∷
@@ -105,7 +106,7 @@ pub settled :
     × (planningOf sheetC lent
     ≡ run (plan 0 4 1)
     (engineTables
-    (tables (0 ∷ 0 ∷ 71 ∷ 71 ∷ 71 ∷ 71 ∷ []) (1 ∷ 2 ∷ 72 ∷ 72 ∷ 72 ∷ 72 ∷ []) (9 ∷ 4 ∷ 73 ∷ 73 ∷ 73 ∷ 73 ∷ []) (1 ∷ 2 ∷ 2 ∷ 74 ∷ 74 ∷ []))
+    (sheetTables (0 ∷ 0 ∷ 71 ∷ 71 ∷ 71 ∷ 71 ∷ []) (1 ∷ 2 ∷ 72 ∷ 72 ∷ 72 ∷ 72 ∷ []) (9 ∷ 4 ∷ 73 ∷ 73 ∷ 73 ∷ 73 ∷ []) (1 ∷ 2 ∷ 2 ∷ 74 ∷ 74 ∷ []))
     (
     0 ∷ 0 ∷ 4 ∷ 4 ∷
     0 ∷ 4_294_967_295 ∷ 0 ∷ 4_294_967_295 ∷
@@ -125,7 +126,7 @@ pub settled :
     × (planningOf sheetD lent
     ≡ run (plan 0 7 1)
     (engineTables
-    (tables (0 ∷ 1 ∷ 71 ∷ 71 ∷ 71 ∷ 71 ∷ []) (1 ∷ 0 ∷ 72 ∷ 72 ∷ 72 ∷ 72 ∷ []) (7 ∷ 7 ∷ 73 ∷ 73 ∷ 73 ∷ 73 ∷ []) (1 ∷ 2 ∷ 74 ∷ 74 ∷ 74 ∷ []))
+    (sheetTables (0 ∷ 1 ∷ 71 ∷ 71 ∷ 71 ∷ 71 ∷ []) (1 ∷ 0 ∷ 72 ∷ 72 ∷ 72 ∷ 72 ∷ []) (7 ∷ 7 ∷ 73 ∷ 73 ∷ 73 ∷ 73 ∷ []) (1 ∷ 2 ∷ 74 ∷ 74 ∷ 74 ∷ []))
     (
     0 ∷ 0 ∷ 7 ∷ 7 ∷
     0 ∷ 7 ∷ 0 ∷ 7 ∷
@@ -145,7 +146,7 @@ pub settled :
     × (planningOf sheetE lent
     ≡ run (refused ofSearch 12 0)
     (engineTables
-    (tables (71 ∷ 71 ∷ 71 ∷ 71 ∷ 71 ∷ 71 ∷ []) (72 ∷ 72 ∷ 72 ∷ 72 ∷ 72 ∷ 72 ∷ []) (73 ∷ 73 ∷ 73 ∷ 73 ∷ 73 ∷ 73 ∷ []) (1 ∷ 2 ∷ 74 ∷ 74 ∷ 74 ∷ []))
+    (sheetTables (71 ∷ 71 ∷ 71 ∷ 71 ∷ 71 ∷ 71 ∷ []) (72 ∷ 72 ∷ 72 ∷ 72 ∷ 72 ∷ 72 ∷ []) (73 ∷ 73 ∷ 73 ∷ 73 ∷ 73 ∷ 73 ∷ []) (1 ∷ 2 ∷ 74 ∷ 74 ∷ 74 ∷ []))
     (
     0 ∷ 0 ∷ 4_294_967_295 ∷ 4_294_967_295 ∷
     0 ∷ 4_294_967_295 ∷ 0 ∷ 4_294_967_295 ∷
@@ -166,7 +167,7 @@ pub settled :
     × (planningOf sheetG lent
     ≡ run (plan 0 1_000_000 1)
     (engineTables
-    (tables (0 ∷ 1 ∷ 71 ∷ 71 ∷ 71 ∷ 71 ∷ []) (1 ∷ 0 ∷ 72 ∷ 72 ∷ 72 ∷ 72 ∷ []) (1_000_000 ∷ 1_000_000 ∷ 73 ∷ 73 ∷ 73 ∷ 73 ∷ []) (1 ∷ 2 ∷ 74 ∷ 74 ∷ 74 ∷ []))
+    (sheetTables (0 ∷ 1 ∷ 71 ∷ 71 ∷ 71 ∷ 71 ∷ []) (1 ∷ 0 ∷ 72 ∷ 72 ∷ 72 ∷ 72 ∷ []) (1_000_000 ∷ 1_000_000 ∷ 73 ∷ 73 ∷ 73 ∷ 73 ∷ []) (1 ∷ 2 ∷ 74 ∷ 74 ∷ 74 ∷ []))
     (
     0 ∷ 0 ∷ 1_000_000 ∷ 1_000_000 ∷
     0 ∷ 1_000_000 ∷ 0 ∷ 1_000_000 ∷

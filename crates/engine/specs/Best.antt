@@ -9,28 +9,29 @@ use mathlib.Core.Option.{Option, none, some}
 use mathlib.Core.List.{List}
 use native.Mathlib.Omega.{arith}
 use lib.Arith.{digits-lt}
-use lib.Dec.{T, eqb, eqb→eq, leb}
+use lib.Dec.{T, leb}
 use lib.ListN.{length, take, drop}
 use lib.Pow.{ones-lt}
 use lib.Seq.{take-at}
 use Rattle.limits.specs.Limits.{maxNodes, maxArcs, noCost}
 use Rattle.limits.specs.Refusals.{noPlan, shortBuffer}
 use Rattle.lists.specs.Every.{every-imp}
-use Rattle.lists.specs.Find.{all-at, all-of}
 use Rattle.lists.specs.Over.{over, length-over}
-use Rattle.lists.specs.Tests.{by-test, true-fact, fact-true, eq-fact}
+use Rattle.lists.specs.Tests.{by-test}
 use Rattle.subset.specs.Sets.{full}
 use Rattle.subset.specs.Parts.{full-ne}
 use Rattle.answer.specs.Stated.{Stated, plan, refused, ofTables, ofSearch}
 use Rattle.graph.specs.Graph.{Graph}
-use Rattle.graph.specs.InTables.{graphIn}
-use Rattle.graph.specs.LeastTotals.{leastCell, IsCostTable, Room}
+use Rattle.graph.specs.HeldGraph.{graphIn}
+use Rattle.graph.specs.LeastTotals.{leastCell, IsCostTable}
 use Rattle.graph.specs.Layout.{rootOf, layout}
 use Rattle.graph.specs.Theorems.{layout-is-least, root-rule, same-root, same-layout}
-use Rattle.table.specs.Cells.{cellIn, costTable}
-use Rattle.table.specs.Cheapest.{LowestTo}
-use Rattle.table.specs.Rows.{length-table, table-over}
-use Rattle.loader.specs.Tables.{Tables}
+use Rattle.cost_table.specs.Cells.{cellIn, costTable}
+use Rattle.cost_table.specs.Cheapest.{LowestTo}
+use Rattle.cost_table.specs.Rows.{length-table, table-over}
+use Rattle.lent_tables.specs.SheetTables.{SheetTables}
+use Rattle.lent_tables.specs.Lengths.{cellsAndMarks}
+use Rattle.network.specs.HeldSheet.{HeldSheet}
 use Rattle.planfile.specs.Format.{fileBytes, fileSize}
 use Rattle.planfile.specs.FormatLaws.{Fits, fits-encoding, length-file}
 use Rattle.planfile.specs.Writing.{Writing, writing, writtenOver, writingOf}
@@ -39,15 +40,14 @@ use Rattle.planfile.specs.declared.write.Written.the-variants.{File, ShortBuffe
 use Rattle.layout.specs.Plan.{laid, Ready}
 use Rattle.layout.specs.Root.{fullCellIn}
 use Rattle.layout.specs.Roots.{lowest-root}
-use Rattle.search.specs.Whole.{Searchable}
-use Rattle.mission.specs.Runs.{engineTables, run}
+use Rattle.mission.specs.Runs.{EngineTables, withBuffer, run}
 use Rattle.engine.specs.Engine.{fullCell, Plan, planWith, allNone, planAt, planUnless, planOf, written, sentBack}
 use Rattle.engine.specs.Laid.{Plannable}
-use Rattle.engine.specs.Found.{full-capped}
+use Rattle.engine.specs.Found.{all-none-at, all-none-of, full-capped}
 
 -- a plan or none is sent back, with the plan buffer as it then is, whatever the other tables hold
 pub record SentBack (o : Option Plan) (answer : Stated) (before after : List ℕ) : Type 0 where
-  pub sent : (t : Tables) (cells marks : List ℕ) → run answer (engineTables t cells marks after) ≡ sentBack o (engineTables t cells marks before)
+  pub sent : (t : EngineTables) → run answer (withBuffer after t) ≡ sentBack o (withBuffer before t)
 
 -- ---- the file
 
@@ -77,26 +77,26 @@ module _ (root total : ℕ) (arcs buffer : List ℕ) where
     test-is = ap (λ (x : ℕ). leb x (length buffer)) (sym (length-file root total arcs))
 
     pub sent-file : (size : ℕ) → w ≡ File size → SentBack (some (planWith root total arcs)) (plan root total (length arcs)) buffer after
-    sent-file size is = record { sent = λ t cells marks. go t cells marks (leb (length (fileBytes root total arcs)) (length buffer)) refl }
+    sent-file size is = record { sent = λ t. go t (leb (length (fileBytes root total arcs)) (length buffer)) refl }
       where
-        go : (t : Tables) (cells marks : List ℕ) (b : Bool) → leb (length (fileBytes root total arcs)) (length buffer) ≡ b
-            → run (plan root total (length arcs)) (engineTables t cells marks after) ≡ sentBack (some (planWith root total arcs))
-            (engineTables t cells marks buffer)
-        go t cells marks true q =
-            ap (λ (x : List ℕ). run (plan root total (length arcs)) (engineTables t cells marks x)) (ap bufferOf (by-length true q))
-            ∙ sym (ap (λ (c : Bool). written c (planWith root total arcs) (engineTables t cells marks buffer)) (test-is ∙ q))
-        go t cells marks false q = let z : _≡_ {A = ℕ} 0 1 = ap kindOf (sym is) ∙ ap kind (by-length false q) in absurd (omega arith)
+        go : (t : EngineTables) (b : Bool) → leb (length (fileBytes root total arcs)) (length buffer) ≡ b
+            → run (plan root total (length arcs)) (withBuffer after t) ≡ sentBack (some (planWith root total arcs))
+            (withBuffer buffer t)
+        go t true q =
+            ap (λ (x : List ℕ). run (plan root total (length arcs)) (withBuffer x t)) (ap bufferOf (by-length true q))
+            ∙ sym (ap (λ (c : Bool). written c (planWith root total arcs) (withBuffer buffer t)) (test-is ∙ q))
+        go t false q = let z : _≡_ {A = ℕ} 0 1 = ap kindOf (sym is) ∙ ap kind (by-length false q) in absurd (omega arith)
 
     pub sent-short : w ≡ ShortBuffer → SentBack (some (planWith root total arcs)) (refused ofTables shortBuffer 0) buffer after
-    sent-short is = record { sent = λ t cells marks. go t cells marks (leb (length (fileBytes root total arcs)) (length buffer)) refl }
+    sent-short is = record { sent = λ t. go t (leb (length (fileBytes root total arcs)) (length buffer)) refl }
       where
-        go : (t : Tables) (cells marks : List ℕ) (b : Bool) → leb (length (fileBytes root total arcs)) (length buffer) ≡ b
-            → run (refused ofTables shortBuffer 0) (engineTables t cells marks after) ≡ sentBack (some (planWith root total arcs))
-            (engineTables t cells marks buffer)
-        go t cells marks true q = let z : _≡_ {A = ℕ} 1 0 = ap kindOf (sym is) ∙ ap kind (by-length true q) in absurd (omega arith)
-        go t cells marks false q =
-            ap (λ (x : List ℕ). run (refused ofTables shortBuffer 0) (engineTables t cells marks x)) (ap bufferOf (by-length false q))
-            ∙ sym (ap (λ (c : Bool). written c (planWith root total arcs) (engineTables t cells marks buffer)) (test-is ∙ q))
+        go : (t : EngineTables) (b : Bool) → leb (length (fileBytes root total arcs)) (length buffer) ≡ b
+            → run (refused ofTables shortBuffer 0) (withBuffer after t) ≡ sentBack (some (planWith root total arcs))
+            (withBuffer buffer t)
+        go t true q = let z : _≡_ {A = ℕ} 1 0 = ap kindOf (sym is) ∙ ap kind (by-length true q) in absurd (omega arith)
+        go t false q =
+            ap (λ (x : List ℕ). run (refused ofTables shortBuffer 0) (withBuffer x t)) (ap bufferOf (by-length false q))
+            ∙ sym (ap (λ (c : Bool). written c (planWith root total arcs) (withBuffer buffer t)) (test-is ∙ q))
 
     -- every number of a plan fits
     pub never-none : w ≡ NoFile → ⊥
@@ -109,15 +109,15 @@ module _ (root total : ℕ) (arcs buffer : List ℕ) where
 -- ---- the plan of the cells
 
 -- tables that hold a graph within the limits of a sheet, and its finished cost table
-pub record FinishedSheet (n k m : ℕ) (starts ends weights landings cells : List ℕ) : Type 0 where
+pub record FinishedSheet (n k m : ℕ) (t : SheetTables) (cells : List ℕ) : Type 0 where
   pub some-node : 1 ≤ n
   pub few-nodes : n ≤ maxNodes
   pub few-arcs : m ≤ maxArcs
-  pub ready : Ready n k m starts ends weights landings cells
+  pub ready : Ready n k m t cells
 
-module _ {n k m : ℕ} {starts ends weights landings cells : List ℕ} (F : FinishedSheet n k m starts ends weights landings cells) where
+module _ {n k m : ℕ} {t : SheetTables} {cells : List ℕ} (F : FinishedSheet n k m t cells) where
   abbrev G : Graph
-  G = graphIn n k m starts ends weights landings
+  G = graphIn n k m t
 
   table : IsCostTable G (cellIn cells (2 ^ k)) noCost
   table = F .ready .finished .table
@@ -127,8 +127,6 @@ module _ {n k m : ℕ} {starts ends weights landings cells : List ℕ} (F : Fini
     sound = F .ready .finished .sound;
     room = F .ready .finished .room;
     some-terminal = F .ready .some-terminal;
-    uncharged = λ v. refl;
-    any-root = λ v. tt;
   }
 
   -- the cell of the full set, as it is read
@@ -137,7 +135,7 @@ module _ {n k m : ℕ} {starts ends weights landings cells : List ℕ} (F : Fini
 
   module _ (root : ℕ) (is : LowestTo (fullCellIn k cells) n root) where
     root-is : rootOf G (leastCell G noCost) ≡ some root
-    root-is = sym (same-root G (cellIn cells (2 ^ k)) (leastCell G noCost) table) ∙ lowest-root n k m starts ends weights landings cells root is
+    root-is = sym (same-root G (cellIn cells (2 ^ k)) (leastCell G noCost) table) ∙ lowest-root n k m t cells root is
 
     pub root-lt : root < n
     root-lt = root-rule G (leastCell G noCost) root root-is .node
@@ -152,15 +150,13 @@ module _ {n k m : ℕ} {starts ends weights landings cells : List ℕ} (F : Fini
     pub none-sent : (cost : ℕ) → cost ≡ cellIn cells (2 ^ k) root (full k) → cost ≡ noCost → (buffer : List ℕ)
         → SentBack (planOf G) (refused ofSearch noPlan 0) buffer buffer
     unfolding planOf
-    none-sent cost of-root none-here buffer = record { sent = λ t c marks. sym (ap (λ (o : Option Plan). sentBack o (engineTables t c marks buffer)) no-plan) }
+    none-sent cost of-root none-here buffer = record { sent = λ lent. sym (ap (λ (o : Option Plan). sentBack o (withBuffer buffer lent)) no-plan) }
       where
-        each : (v : ℕ) → v < n → T (eqb (fullCell G v) noCost)
-        each v on =
-            let same : fullCell G v ≡ noCost = omega (arith, cell-is, root-rule G (leastCell G noCost) root root-is .cheapest v on tt, full-capped G plannable v on) in
-            eq-fact same
+        each : (v : ℕ) → v < n → T (G .mayRoot v) → fullCell G v ≡ noCost
+        each v on may = omega (arith, cell-is, root-rule G (leastCell G noCost) root root-is .cheapest v on may, full-capped G plannable v on)
 
         no-plan : planOf G ≡ none
-        no-plan = ap (λ (b : Bool). planUnless b G) (fact-true {b = allNone G} (all-of (λ v. eqb (fullCell G v) noCost) n each))
+        no-plan = ap (λ (b : Bool). planUnless b G) (all-none-of G each)
 
     module _ (cost : ℕ) (of-root : cost ≡ cellIn cells (2 ^ k) root (full k)) (some-cost : cost ≢ noCost) where
       pub finite : cellIn cells (2 ^ k) root (full k) < noCost
@@ -178,8 +174,7 @@ module _ {n k m : ℕ} {starts ends weights landings cells : List ℕ} (F : Fini
           some-finite : allNone G ≡ false
           some-finite =
               by-test (allNone G) (λ b. b ≡ false)
-              (λ q. absurd (some-cost (of-root ∙ cell-is ∙ eqb→eq (fullCell G root) noCost
-              (all-at (λ v. eqb (fullCell G v) noCost) n (true-fact q) root root-lt))))
+              (λ q. absurd (some-cost (of-root ∙ cell-is ∙ all-none-at G q root root-lt (root-rule G (leastCell G noCost) root root-is .may))))
               (λ q. refl)
 
       -- at most one arc for each node but the root
@@ -214,49 +209,35 @@ module _ {n k m : ℕ} {starts ends weights landings cells : List ℕ} (F : Fini
         pub plan-sent : {answer : Stated} {before after : List ℕ} → SentBack (some (planWith root cost (take count out))) answer before after
             → SentBack (planOf G) answer before after
         plan-sent {answer} {before} {after} done = record {
-          sent = λ t c marks.
-              done .sent t c marks
-              ∙ ap (λ (l : List ℕ). sentBack (some (planWith root cost l)) (engineTables t c marks before)) taken
-              ∙ sym (ap (λ (o : Option Plan). sentBack o (engineTables t c marks before)) plan-is);
+          sent = λ lent.
+              done .sent lent
+              ∙ ap (λ (l : List ℕ). sentBack (some (planWith root cost l)) (withBuffer before lent)) taken
+              ∙ sym (ap (λ (o : Option Plan). sentBack o (withBuffer before lent)) plan-is);
         }
 
--- ---- over loaded tables
+-- ---- over tables that hold a sheet
 
--- tables that hold a graph within the limits of a sheet, with room for its cost table and its marks
-pub record LoadedSheet (n k m : ℕ) (starts ends weights landings cells marks : List ℕ) : Type 0 where
-  pub searchable : Searchable n k m starts ends weights landings
-  pub some-node : 1 ≤ n
-  pub some-terminal : 1 ≤ k
-  pub few-arcs : m ≤ maxArcs
-  pub room : Room (graphIn n k m starts ends weights landings) noCost
-  pub cells-long : n * 2 ^ k ≤ length cells
-  pub marks-long : n ≤ length marks
+module _ {n k m : ℕ} {t : SheetTables} (cells marks : List ℕ) (H : HeldSheet n k m t (cellsAndMarks (length cells) (length marks))) where
+  -- the table that the search leaves is finished
+  pub search-finishes : {after : List ℕ} → after ≡ over (costTable (graphIn n k m t) noCost) cells → FinishedSheet n k m t after
+  search-finishes {after} e = record {
+    some-node = H .nodes .0;
+    few-nodes = H .nodes .1;
+    few-arcs = H .few-arcs;
+    ready = record {
+      some-terminal = H .terminals .0;
+      terminals = H .terminals .1;
+      long = H .long .tables;
+      long-cells = omega (arith, ap length e, length-over table cells (omega (arith, so-many, H .long .further .cells)), H .long .further .cells);
+      finished = record { sound = H .sound; room = H .room; table = held };
+    };
+  }
+    where
+      table : List ℕ
+      table = costTable (graphIn n k m t) noCost
 
--- the table that the search leaves is finished
-pub search-finishes : {n k m : ℕ} {starts ends weights landings cells marks after : List ℕ} → LoadedSheet n k m starts ends weights landings cells marks
-    → after ≡ over (costTable (graphIn n k m starts ends weights landings) noCost) cells → FinishedSheet n k m starts ends weights landings after
-search-finishes {n} {k} {m} {starts} {ends} {weights} {landings} {cells} {marks} {after} L e = record {
-  some-node = L .some-node;
-  few-nodes = L .searchable .few-nodes;
-  few-arcs = L .few-arcs;
-  ready = record {
-    some-terminal = L .some-terminal;
-    terminals = L .searchable .few-terminals;
-    long-starts = L .searchable .starts-long;
-    long-ends = L .searchable .ends-long;
-    long-weights = L .searchable .weights-long;
-    long-landings = L .searchable .landings-long;
-    long-cells = omega (arith, ap length e, length-over table cells (omega (arith, so-many, L .cells-long)), L .cells-long);
-    finished = record { sound = L .searchable .sound; room = L .room; table = held };
-  };
-}
-  where
-    table : List ℕ
-    table = costTable (graphIn n k m starts ends weights landings) noCost
+      so-many : length table ≡ n * 2 ^ k
+      so-many = length-table (graphIn n k m t) noCost
 
-    so-many : length table ≡ n * 2 ^ k
-    so-many = length-table (graphIn n k m starts ends weights landings) noCost
-
-    held : IsCostTable (graphIn n k m starts ends weights landings) (cellIn after (2 ^ k)) noCost
-    held v w on small =
-        ap (λ (x : List ℕ). cellIn x (2 ^ k) v w) e ∙ table-over (graphIn n k m starts ends weights landings) noCost cells v w on small
+      held : IsCostTable (graphIn n k m t) (cellIn after (2 ^ k)) noCost
+      held v w on small = ap (λ (x : List ℕ). cellIn x (2 ^ k) v w) e ∙ table-over (graphIn n k m t) noCost cells v w on small

@@ -1,28 +1,28 @@
 -- The engine's answer to a sheet, and every table and the plan buffer afterwards (document 01, "The cost table", "Laying out a plan" and "What
 -- is sent back"): the sheet's refusals, "Then 11, 12, 13", or the plan.
 -- Assumes nothing.
-use Prim.Native.Nat.{ℕ, _*_, _^_}
-use mathlib.Core.Bool.{Bool, true, false, _&&_}
+use Prim.Native.Nat.{ℕ}
+use mathlib.Core.Bool.{Bool, true, false, not, _||_}
 use mathlib.Core.Option.{Option, none, some}
 use mathlib.Core.List.{List}
 use lib.Dec.{leb, eqb}
 use lib.ListN.{length, replicate}
 use Rattle.limits.specs.Limits.{noCost}
-use Rattle.limits.specs.Refusals.{shortTables, noPlan, shortBuffer}
+use Rattle.limits.specs.Refusals.{noPlan, shortBuffer}
 use Rattle.lists.specs.Find.{allTo}
 use Rattle.lists.specs.Over.{over}
 use Rattle.subset.specs.Sets.{full}
-use Rattle.answer.specs.Stated.{plan, refused, ofTables, ofSearch, statedSheet}
+use Rattle.answer.specs.Stated.{plan, refused, ofTables, ofSearch}
 use Rattle.graph.specs.Graph.{Graph}
 use Rattle.graph.specs.LeastTotals.{leastCell}
 use Rattle.graph.specs.Layout.{rootOf, layout}
-use Rattle.sheet.specs.Verdict.{verdict}
 use Rattle.sheet.specs.declared.record.Record.{Record}
-use Rattle.loader.specs.Tables.{areLong, loaded, byVerdict}
+use Rattle.loader.specs.Loaded.{loaded}
+use Rattle.opener.specs.Opening.{sheetOpening}
 use Rattle.network.specs.Network.{graphOf}
 use Rattle.planfile.specs.Format.{fileBytes, fileSize}
-use Rattle.table.specs.Cells.{costTable}
-use Rattle.mission.specs.Runs.{EngineTables, Run, run}
+use Rattle.cost_table.specs.Cells.{costTable}
+use Rattle.mission.specs.Runs.{EngineTables, withBuffer, engineFurther, Run, run, runOpened}
 
 -- ---- the plan of a graph
 
@@ -43,11 +43,11 @@ planWith root cost arcs = record { root = root; cost = cost; arcs = arcs }
 abbrev pub planFrom : Graph → ℕ → Plan
 planFrom G root = planWith root (fullCell G root) (layout G (leastCell G noCost) noCost root (full (G .terminals)))
 
--- "every full-set cell is "none""
+-- "every full-set cell is "none"", of the sites that may be a root: in the base, of every site
 abbrev pub allNone : Graph → Bool
-allNone G = allTo (λ v. eqb (fullCell G v) noCost) (G .nodes)
+allNone G = allTo (λ v. not (G .mayRoot v) || eqb (fullCell G v) noCost) (G .nodes)
 
--- where not every full-set cell is "none", from "the lowest site whose full-set cell is least"
+-- where not every such cell is "none", from "the lowest site whose full-set cell is least", of the same sites
 abbrev pub planAt : Graph → Option ℕ → Option Plan
 planAt G none = none
 planAt G (some root) = some (planFrom G root)
@@ -73,12 +73,7 @@ searched n k records t = record {
 
 -- "`PN`, root (2), total (4), leg count (2); then per leg `LG`, leg number (2)"; "Bytes of the plan buffer beyond the file are untouched"
 abbrev pub withFile : Plan → EngineTables → EngineTables
-withFile p t = record {
-  tables = t .tables;
-  cells = t .cells;
-  marks = t .marks;
-  buffer = over (fileBytes (p .root) (p .cost) (p .arcs)) (t .buffer);
-}
+withFile p t = withBuffer (over (fileBytes (p .root) (p .cost) (p .arcs)) (t .buffer)) t
 
 -- 13: "plan longer than its buffer"; else the plan, with "the root, total and leg count that stand in the file"
 abbrev pub written : Bool → Plan → EngineTables → Run EngineTables
@@ -92,17 +87,9 @@ sentBack (some p) t = written (leb (fileSize (length (p .arcs))) (length (t .buf
 
 -- ---- the whole
 
--- the needed tables are long enough for n sites, k stations and m legs, as a test: `EngineLong` of crate mission
-abbrev pub allLong : (n k m : ℕ) → EngineTables → Bool
-allLong n k m t = areLong n m (t .tables) && leb (n * 2 ^ k) (length (t .cells)) && leb n (length (t .marks))
-
--- by the verdict: the sheet's refusal; 11, where the lengths fail this test; or the sheet is planned. "1 to 11 touch nothing. 12 and 13 leave
--- the tables as after a plan, and the plan buffer untouched."
+-- by the opening of the sheet: a refusal, 1 to 11, which touches nothing; or the sheet is planned. "12 and 13 leave the tables as after a plan, and
+-- the plan buffer untouched."
 abbrev pub planningOf : (sheet : List ℕ) → EngineTables → Run EngineTables
 planningOf sheet t =
-    byVerdict
-    (λ fault. run (statedSheet fault) t)
-    (run (refused ofTables shortTables 0) t)
-    (λ n k m. allLong n k m t)
-    (λ n k records. sentBack (planOf (graphOf n k records)) (searched n k records t))
-    (verdict sheet)
+    runOpened t (λ n k records. sentBack (planOf (graphOf n k records)) (searched n k records t))
+    (sheetOpening sheet (t .tables) (engineFurther t))

@@ -1,5 +1,5 @@
--- The layout by the cells of the least totals is the stated rule's: what its tests say in the words of the rule, that the root is the rule's,
--- and that the arcs are those that the rule adds.
+-- The layout by the cells of the least totals is the stated rule's, whatever the nodes are charged and whichever may be a root: what its tests
+-- say in the words of the rule, that the root is the rule's, and that the arcs are those that the rule adds.
 -- Assumes nothing.
 use Prim.Native.Nat.{ℕ, zero, suc, _+_, _-_, _^_, _≤_, _<_}
 use mathlib.Core.Path.{_≡_, refl, sym, _∙_, subst}
@@ -17,7 +17,7 @@ use Rattle.subset.specs.Parts.{part-le, full-ne}
 use Rattle.graph.specs.Graph.{Graph, Sound, Landing}
 use Rattle.graph.specs.LeastTotals.{leastTotal, leastCell, Least, IsLeastTotal, IsCostTable, Room}
 use Rattle.graph.specs.Layout.{isDone, fits, splits, layout, rootOf}
-use Rattle.graph.specs.Theorems.{least-total-is-least, rule-nothing, rule-arc, rule-split, step-applies, root-rule}
+use Rattle.graph.specs.Theorems.{least-total-is-least, rule-nothing, rule-arc, rule-split, step-applies, splitting-leads, root-rule}
 use Rattle.graph.specs.laws.LeastMeaning.{cell-total}
 use Rattle.graph.specs.laws.LayoutRule.{fits-facts, facts-fit, splits-facts, facts-split, done-facts, facts-done}
 use Rattle.mission.specs.Rule.{Costs, Lowest, Nothing, ArcFits, PartSplits, Added, nothing, follow, split, ByRule}
@@ -54,8 +54,6 @@ pub record Plannable (G : Graph) : Type 0 where
   pub sound : Sound G
   pub room : Room G noCost
   pub some-terminal : 1 ≤ G .terminals
-  pub uncharged : (v : ℕ) → G .charge v ≡ 0
-  pub any-root : (v : ℕ) → T (G .mayRoot v)
 
 -- the cells of the least totals are the cost table
 pub least-table : (G : Graph) → IsCostTable G (leastCell G noCost) noCost
@@ -83,8 +81,8 @@ module _ (G : Graph) (g : Plannable G) where
     arc-fits e a =
         let end = costs-cell G noCost (G .end e) w filled (a .cost) (a .at-end) in
         let finite = costs-finite G noCost (G .end e) w filled (g .room) (a .cost) (a .at-end) in
-        let here = costs-cell G noCost v w filled (G .weight e + a .cost) (a .makes) in
-        facts-fit G cells noCost v w e (a .from, (omega arith, omega (arith, g .uncharged v)))
+        let here = costs-cell G noCost v w filled (G .weight e + G .charge v + a .cost) (a .makes) in
+        facts-fit G cells noCost v w e (a .from, (omega arith, omega arith))
 
     -- a part splits the set
     part-splits : (y : ℕ) → PartSplits G v w y → T (splits G cells v w y)
@@ -94,8 +92,8 @@ module _ (G : Graph) (g : Plannable G) where
         let rest : w - y ≢ 0 = λ e. differ (omega arith) in
         let of-part = costs-cell G noCost v y (p .some-terminal) (p .cost) (p .of-part) in
         let of-rest = costs-cell G noCost v (w - y) rest (p .rest-cost) (p .of-rest) in
-        let here = costs-cell G noCost v w filled (p .cost + p .rest-cost) (p .makes) in
-        facts-split G cells v w y (p .some-terminal, (p .within, omega (arith, g .uncharged v)))
+        let here = costs-cell G noCost v w filled (p .whole) (p .makes) in
+        facts-split G cells v w y (p .some-terminal, (p .within, omega (arith, p .adds-up)))
 
     no-arc : first (fits G cells noCost v w) (G .arcs) ≡ none → (e : ℕ) → ArcFits G v w e → ⊥
     no-arc q e a = not-both (fits G cells noCost v w e) (arc-fits e a) (first-says (fits G cells noCost v w) (G .arcs) none q e (a .on-graph))
@@ -105,7 +103,6 @@ module _ (G : Graph) (g : Plannable G) where
       lowest-arc e q =
           let (on, passes, before) = first-says (fits G cells noCost v w) (G .arcs) (some e) q in
           let (starts, (end-finite, makes)) = fits-facts G cells noCost v w e passes in
-          let sum : cells v w ≡ G .weight e + cells (G .end e) w = omega (arith, g .uncharged v) in
           record {
             holds =
                 record {
@@ -113,17 +110,16 @@ module _ (G : Graph) (g : Plannable G) where
                   from = starts;
                   cost = cells (G .end e) w;
                   at-end = finite-costs G noCost (G .end e) w filled end-finite;
-                  makes = subst (Costs G v w) sum (finite-costs G noCost v w filled finite);
+                  makes = subst (Costs G v w) (sym makes) (finite-costs G noCost v w filled finite);
                 };
             lowest = λ d below a. not-both (fits G cells noCost v w d) (arc-fits d a) (before d below);
           }
 
-      lowest-part : (y : ℕ) → first (splits G cells v w) w ≡ some y → Lowest (PartSplits G v w) y
-      lowest-part y q =
+      lowest-part : v < G .nodes → w < 2 ^ G .terminals → (y : ℕ) → first (splits G cells v w) w ≡ some y → Lowest (PartSplits G v w) y
+      lowest-part on small y q =
           let (below, passes, before) = first-says (splits G cells v w) w (some y) q in
-          let (some-terminal, (within, makes)) = splits-facts G cells v w y passes in
-          let free = g .uncharged v in
-          let sum : cells v w ≡ cells v y + cells v (w - y) = omega arith in
+          let (some-terminal, (within, adds-up)) = splits-facts G cells v w y passes in
+          let (_, _, part-low, rest-low) = splitting-leads G (g .sound) noCost (g .room) cells (least-table G) v w y on small q in
           record {
             holds =
                 record {
@@ -132,9 +128,11 @@ module _ (G : Graph) (g : Plannable G) where
                   not-all = λ e. omega arith;
                   cost = cells v y;
                   rest-cost = cells v (w - y);
+                  whole = cells v w;
                   of-part = finite-costs G noCost v y some-terminal (omega arith);
                   of-rest = finite-costs G noCost v (w - y) (λ e. omega arith) (omega arith);
-                  makes = subst (Costs G v w) sum (finite-costs G noCost v w filled finite);
+                  makes = finite-costs G noCost v w filled finite;
+                  adds-up = adds-up;
                 };
             lowest = λ d less p. not-both (splits G cells v w d) (part-splits d p) (before d less);
           }
@@ -158,20 +156,16 @@ module _ (G : Graph) (g : Plannable G) where
           let lowest = lowest-arc v w filled finite e q in
           let arc : ArcFits G v w e = lowest .holds in
           let end = costs-cell G noCost (G .end e) w filled (arc .cost) (arc .at-end) in
-          let here = costs-cell G noCost v w filled (G .weight e + arc .cost) (arc .makes) in
+          let here = costs-cell G noCost v w filled (G .weight e + G .charge v + arc .cost) (arc .makes) in
           let heavy = g .sound .weight-pos e (arc .on-graph) in
           subst (Added G v w) (sym (rule-arc G (g .sound) cells noCost v w e (false-not-fact t) q))
           (follow e more lowest (below (G .end e) w (omega arith) (g .sound .end-lt e (arc .on-graph)) filled small (omega arith)))
       go false t none q (some y) r below =
           let more : Nothing G v w → ⊥ = λ n. not-both (isDone G v w) (nothing-done v w n) (false-not-fact t) in
-          let lowest = lowest-part v w filled finite y r in
-          let part = lowest .holds in
-          let less = first-says (splits G cells v w) w (some y) r .0 in
+          let lowest = lowest-part v w filled finite on small y r in
+          let some-terminal = lowest .holds .some-terminal in
+          let (less, _, part-low, rest-low) = splitting-leads G (g .sound) noCost (g .room) cells (least-table G) v w y on small r in
           let rest : w - y ≢ 0 = λ e. omega arith in
-          let some-terminal = part .some-terminal in
-          let of-part = costs-cell G noCost v y (part .some-terminal) (part .cost) (part .of-part) in
-          let of-rest = costs-cell G noCost v (w - y) rest (part .rest-cost) (part .of-rest) in
-          let here = costs-cell G noCost v w filled (part .cost + part .rest-cost) (part .makes) in
           subst (Added G v w) (sym (rule-split G (g .sound) cells noCost v w y (false-not-fact t) q r))
           (split y more (no-arc v w filled q) lowest
           (below v y (omega arith) on some-terminal (omega arith) (omega arith)) (below v (w - y) (omega arith) on rest (omega arith) (omega arith)))
@@ -191,11 +185,12 @@ module _ (G : Graph) (g : Plannable G) where
               holds =
                   record {
                     node = r .node;
+                    may-root = r .may;
                     costs = finite-costs G noCost root w filled finite;
-                    least = λ u y on costs. omega (arith, r .cheapest u on (g .any-root u), costs-cell G noCost u w filled y costs);
+                    least = λ u y on may costs. omega (arith, r .cheapest u on may, costs-cell G noCost u w filled y costs);
                   };
               lowest = λ u less also.
-                  omega (arith, r .lowest u less (g .any-root u), costs-cell G noCost u w filled (fullCell G root) (also .costs));
+                  omega (arith, r .lowest u less (also .may-root), costs-cell G noCost u w filled (fullCell G root) (also .costs));
             };
         laid = added-in (suc (fullCell G root + w)) root w (omega arith) (r .node) filled (ones-lt (G .terminals)) finite;
       }

@@ -1,9 +1,12 @@
 -- The mission, point 1, of the engine's answer as it is defined.
 -- Assumes nothing.
 use Prim.Native.Nat.{ℕ, _<_}
-use mathlib.Core.Path.{_≡_, refl, ap}
+use mathlib.Core.Path.{_≡_, refl}
+use mathlib.Core.Bool.{Bool, true, false}
+use mathlib.Core.Option.{Option, none, some}
 use mathlib.Core.List.{List}
 use native.Mathlib.Omega.{arith}
+use lib.Dec.{leb}
 use lib.ListN.{length}
 use Rattle.limits.specs.Refusals.{shortTables, noPlan, shortBuffer}
 use Rattle.answer.specs.Stated.{Family, plan, refused, ofSearch, ofTables, statedSheet}
@@ -12,11 +15,13 @@ use Rattle.answer.specs.declared.SheetFault.{SheetFault}
 use Rattle.answer.specs.declared.Refusal.the-variants.{Sheet}
 use Rattle.sheet.specs.Verdict.{good, verdict}
 use Rattle.sheet.specs.declared.record.Record.{Record}
-use Rattle.mission.specs.Runs.{EngineTables, engineTables, GoodWith, Run}
+use Rattle.network.specs.Network.{graphOf}
+use Rattle.planfile.specs.Format.{fileSize}
+use Rattle.mission.specs.Runs.{EngineTables, withBuffer, engineFurther, GoodWith, Run}
 use Rattle.mission.specs.PointOne.{AsAfterPlan, EngineNumber, EngineSafe, EnginePointOne, PlanOrRefusal}
-use Rattle.mission.specs.PointLaws.{same-number, plan-not-refused, refused-not-plan, sheet-number, sheet-refusal, loaded-holds}
-use Rattle.engine.specs.Engine.{Plan, searched, withFile, planningOf}
-use Rattle.engine.specs.Rules.{sheet-refused, tables-short, by-cases, by-long-cases}
+use Rattle.mission.specs.PointLaws.{same-number, plan-not-refused, refused-not-plan, sheet-number, sheet-refusal, first-due}
+use Rattle.engine.specs.Engine.{Plan, planOf, searched, withFile, written, sentBack, planningOf}
+use Rattle.engine.specs.Rules.{by-cases}
 
 module _ (sheet : List ℕ) (t : EngineTables) where
   -- a refusal up to 11 touches nothing
@@ -41,7 +46,7 @@ module _ (sheet : List ℕ) (t : EngineTables) where
   module _ (n k : ℕ) (records : List Record) (e : verdict sheet ≡ good n k records) where
     -- the tables after a search, with any plan buffer
     abbrev left : List ℕ → EngineTables
-    left buffer = engineTables (searched n k records t .tables) (searched n k records t .cells) (searched n k records t .marks) buffer
+    left buffer = withBuffer buffer (searched n k records t)
 
     -- they are as after a plan
     as-after-plan : (buffer : List ℕ) → GoodWith sheet (λ n' k' records'. AsAfterPlan n' k' records' t (left buffer))
@@ -50,7 +55,7 @@ module _ (sheet : List ℕ) (t : EngineTables) where
       k = k;
       records = records;
       good-sheet = e;
-      holds = record { tables = loaded-holds n records (t .tables); cells = refl; marks = refl };
+      holds = record { tables = refl; cells = refl; marks = refl };
     }
 
     -- 12 and 13
@@ -87,19 +92,18 @@ safe sheet t =
       };
     })
 
+-- the refusals of a good sheet come after 11
+past-tables : (o : Option Plan) (t : EngineTables) (family : Family) (number place : ℕ) → sentBack o t .answer ≡ refused family number place → shortTables < number
+past-tables none t family number place same = omega (arith, same-number same)
+past-tables (some p) t family number place same = go (leb (fileSize (length (p .arcs))) (length (t .buffer))) same
+  where
+    go : (b : Bool) → written b p t .answer ≡ refused family number place → shortTables < number
+    go true same = absurd (plan-not-refused same)
+    go false same = omega (arith, same-number same)
+
 pub point-one : EnginePointOne planningOf
 point-one sheet t = (
   safe sheet t,
-  record {
-    spoilt = λ fault e. ap (λ (r : Run EngineTables). r .answer) (sheet-refused sheet t fault e);
-    short = λ n k records e short. ap (λ (r : Run EngineTables). r .answer) (tables-short sheet t n k records e short);
-    passed = λ n k records e long.
-        by-long-cases sheet t (λ (r : Run EngineTables). (family : Family) (number place : ℕ) → r .answer ≡ refused family number place → shortTables < number)
-        n k records e long
-        (record {
-          none-found = λ q family number place same. omega (arith, same-number same);
-          too-long = λ p q over family number place same. omega (arith, same-number same);
-          found = λ p q fits family number place same. absurd (plan-not-refused same);
-        });
-  },
+  first-due sheet (t .tables) (engineFurther t) t (λ n k records. sentBack (planOf (graphOf n k records)) (searched n k records t))
+      (λ n k records e. past-tables (planOf (graphOf n k records)) (searched n k records t)),
 )

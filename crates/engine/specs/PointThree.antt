@@ -13,7 +13,7 @@ use Rattle.answer.specs.OneToOne.{refusal-no-plan}
 use Rattle.answer.specs.declared.Refusal.the-variants.{Sheet}
 use Rattle.graph.specs.Graph.{Graph}
 use Rattle.sheet.specs.Arcs.{arcs}
-use Rattle.sheet.specs.Fields.{Bytes}
+use Rattle.number_fields.specs.Fields.{Bytes}
 use Rattle.sheet.specs.Verdict.{good, verdict}
 use Rattle.sheet.specs.declared.record.Record.{Record}
 use Rattle.network.specs.Network.{graphOf}
@@ -45,7 +45,7 @@ file-plan : (sheet file : List ℕ) → Bytes file → (t : ReaderTables) → Ac
     → (n k : ℕ) (records : List Record) → verdict sheet ≡ good n k records → FilePlan (graphOf n k records) file
 file-plan sheet file bytes t (root, cost, count, told) n k records e =
     let a = accepted-good sheet file t root cost count told in
-    let long = same-sheet (λ n k records. ReaderLong n (length (arcs records)) t) sheet (a .good-sheet) e (a .long) in
+    let long = same-sheet (λ n k records. ReaderLong n k (length (arcs records)) t) sheet (a .good-sheet) e (a .long) in
     let (encodes, _) = reads-plans sheet file bytes t n k records e long root cost count in
     let p = encodes told in
     record {
@@ -62,9 +62,9 @@ best-iff G p found file f = (
   (λ none-cheaper.
       omega (
         arith,
-        found .least (f .root) (f .listed) (f .is-plan .subtree) (f .is-plan .covers),
+        found .least (f .root) (f .listed) (f .is-plan .may-root) (f .is-plan .subtree) (f .is-plan .covers),
         f .is-plan .true-total,
-        none-cheaper (p .root) (p .arcs) (found .is-plan .subtree) (found .is-plan .covers),
+        none-cheaper (p .root) (p .arcs) (found .is-plan .may-root) (found .is-plan .subtree) (found .is-plan .covers),
         found .is-plan .true-total,
       )),
 )

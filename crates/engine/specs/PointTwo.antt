@@ -11,7 +11,7 @@ use Rattle.lists.specs.Over.{over}
 use Rattle.answer.specs.Stated.{plan}
 use Rattle.answer.specs.OneToOne.{refusal-no-plan}
 use Rattle.answer.specs.declared.Refusal.the-variants.{Sheet}
-use Rattle.sheet.specs.Fields.{Bytes}
+use Rattle.number_fields.specs.Fields.{Bytes}
 use Rattle.sheet.specs.Verdict.{good, verdict}
 use Rattle.sheet.specs.declared.record.Record.{Record}
 use Rattle.network.specs.Network.{graphOf}

@@ -1,66 +1,47 @@
 -- The cases of the engine's answer, one law each: a refused sheet, 11, 12, 13 and a plan, each with every table and the plan buffer afterwards;
 -- and what holds in each of them holds of the run.
 -- Assumes nothing.
-use Prim.Native.Nat.{ℕ, _*_, _^_, _≤_, _<_}
+use Prim.Native.Nat.{ℕ, _≤_, _<_}
 use mathlib.Core.Path.{_≡_, refl, sym, ap, _∙_, subst}
-use mathlib.Core.Bool.{Bool, true, false, _&&_}
+use mathlib.Core.Bool.{Bool, true, false}
 use mathlib.Core.Option.{Option, none, some}
 use mathlib.Core.List.{List}
 use borrow.Author.Tests.{leb-true, leb-false, le-leb, lt-leb}
-use lib.Dec.{T, leb}
+use lib.Dec.{leb}
 use lib.ListN.{length}
 use Rattle.limits.specs.Refusals.{shortTables, noPlan, shortBuffer}
-use Rattle.lists.specs.Tests.{by-test, both-true}
+use Rattle.lists.specs.Tests.{by-test}
 use Rattle.answer.specs.Stated.{plan, refused, ofTables, ofSearch, statedSheet}
 use Rattle.answer.specs.declared.SheetFault.{SheetFault}
 use Rattle.sheet.specs.Arcs.{arcs}
-use Rattle.sheet.specs.Verdict.{Verdict, good, bad, verdict}
+use Rattle.sheet.specs.Verdict.{good, bad, verdict}
 use Rattle.sheet.specs.declared.record.Record.{Record}
-use Rattle.loader.specs.Tables.{areLong, byVerdict}
-use Rattle.loader.specs.Loading.{JudgedGood, long-enough, areLong-true, by-short, by-good}
+use Rattle.opener.specs.Opening.{SheetOpening, sheetOpening}
+use Rattle.opener.specs.Cases.{opening-bad, opening-short, opening-good, by-opening-cases}
 use Rattle.network.specs.Network.{graphOf}
 use Rattle.planfile.specs.Format.{fileSize}
-use Rattle.mission.specs.Runs.{EngineTables, EngineLong, Run, run}
-use Rattle.engine.specs.Engine.{Plan, planOf, searched, withFile, written, sentBack, allLong, planningOf}
-
--- the test of the lengths passes exactly where the tables are long enough
-pub test-long : (n k m : ℕ) (t : EngineTables) → allLong n k m t ≡ true → EngineLong n k m t
-test-long n k m t h =
-    let (before, marks) = both-true (areLong n m (t .tables) && leb (n * 2 ^ k) (length (t .cells))) (leb n (length (t .marks))) h in
-    let (tables, cells) = both-true (areLong n m (t .tables)) (leb (n * 2 ^ k) (length (t .cells))) before in
-    record { tables = long-enough n m (t .tables) tables; cells = leb-true _ _ cells; marks = leb-true _ _ marks }
-
-pub long-passes : (n k m : ℕ) (t : EngineTables) → EngineLong n k m t → allLong n k m t ≡ true
-long-passes n k m t long =
-    λ i. areLong-true n m (t .tables) (long .tables) i && le-leb _ _ (long .cells) i && le-leb _ _ (long .marks) i
+use Rattle.mission.specs.Runs.{EngineTables, engineFurther, EngineLong, Run, run, runOpened}
+use Rattle.engine.specs.Engine.{Plan, planOf, searched, withFile, written, sentBack, planningOf}
 
 module _ (sheet : List ℕ) (t : EngineTables) where
+  -- the run of an opening
+  abbrev pub given : SheetOpening → Run EngineTables
+  given = runOpened t (λ n k records. sentBack (planOf (graphOf n k records)) (searched n k records t))
+
   -- 1 to 10 touch nothing
   pub sheet-refused : (fault : SheetFault) → verdict sheet ≡ bad fault → planningOf sheet t ≡ run (statedSheet fault) t
-  sheet-refused fault e =
-      ap (byVerdict (λ fault. run (statedSheet fault) t) (run (refused ofTables shortTables 0) t) (λ n k m. allLong n k m t)
-      (λ n k records. sentBack (planOf (graphOf n k records)) (searched n k records t))) e
+  sheet-refused fault e = ap given (opening-bad sheet (t .tables) (engineFurther t) fault e)
 
   module _ (n k : ℕ) (records : List Record) (e : verdict sheet ≡ good n k records) where
-    -- the sheet as it is judged
-    abbrev judged : JudgedGood (verdict sheet) n k (length (arcs records))
-    judged = record { records = records; good-sheet = e; count = refl }
-
     -- 11 touches nothing
-    pub test-failed : allLong n k (length (arcs records)) t ≡ false → planningOf sheet t ≡ run (refused ofTables shortTables 0) t
-    test-failed h = sym (by-short _ _ (λ n k m. allLong n k m t) _ sheet n k (length (arcs records)) judged h)
-
     pub tables-short : (EngineLong n k (length (arcs records)) t → ⊥) → planningOf sheet t ≡ run (refused ofTables shortTables 0) t
-    tables-short short =
-        by-test (allLong n k (length (arcs records)) t)
-        (λ b. allLong n k (length (arcs records)) t ≡ b → planningOf sheet t ≡ run (refused ofTables shortTables 0) t)
-        (λ h _. absurd (short (test-long n k (length (arcs records)) t h))) (λ h _. test-failed h) refl
+    tables-short short = ap given (opening-short sheet (t .tables) (engineFurther t) n k records e short)
 
     module _ (long : EngineLong n k (length (arcs records)) t) where
       -- with long enough tables the sheet is planned
       by-plan : (o : Option Plan) → planOf (graphOf n k records) ≡ o → planningOf sheet t ≡ sentBack o (searched n k records t)
       by-plan o q =
-          sym (by-good _ _ (λ n k m. allLong n k m t) _ sheet n k (length (arcs records)) judged (long-passes n k (length (arcs records)) t long))
+          ap given (opening-good sheet (t .tables) (engineFurther t) n k records e long)
           ∙ ap (λ (x : Option Plan). sentBack x (searched n k records t)) q
 
       -- 12
@@ -116,15 +97,11 @@ module _ (sheet : List ℕ) (t : EngineTables) (P : Run EngineTables → Type 0)
       go (some p) q = size p q
 
   pub by-cases : Cases sheet t P → P (planningOf sheet t)
-  by-cases cases = go (verdict sheet) refl
-    where
-      go : (v : Verdict) → verdict sheet ≡ v → P (planningOf sheet t)
-      go (bad fault) e = subst P (sym (sheet-refused sheet t fault e)) (cases .spoilt fault e)
-      go (good n k records) e =
-          by-test (allLong n k (length (arcs records)) t) (λ _. P (planningOf sheet t))
-          (λ h.
-          let long = test-long n k (length (arcs records)) t h in
-          by-long-cases n k records e long (cases .long n k records e long))
-          (λ h.
-          subst P (sym (test-failed sheet t n k records e h))
-          (cases .short n k records e (λ long. subst T (sym (long-passes n k (length (arcs records)) t long) ∙ h) tt)))
+  by-cases cases =
+      by-opening-cases sheet (t .tables) (engineFurther t) (λ (o : SheetOpening). sheetOpening sheet (t .tables) (engineFurther t) ≡ o → P (given sheet t o))
+      (record {
+        spoilt = λ fault e _. cases .spoilt fault e;
+        short = λ n k records e short _. cases .short n k records e short;
+        long = λ n k records e long q. subst (λ (o : SheetOpening). P (given sheet t o)) q (by-long-cases n k records e long (cases .long n k records e long));
+      })
+      refl

@@ -3,15 +3,17 @@ use answer::Answer;
 use answer::Refusal;
 use answer::SearchFault;
 use answer::TableFault;
+use cost_table::cell;
 use layout::plan::lay_out;
 use layout::root::best_root;
+use limits::Cost;
 use planfile::write::Written;
 use planfile::write::write_plan;
 use subset::Subset;
-use table::cell;
 ghost use mathlib.Core.Option.{some};
 ghost use Rattle.answer.specs.Stated.{stated};
-ghost use Rattle.graph.specs.InTables.{graphIn};
+ghost use Rattle.lent_tables.specs.SheetTables.{sheetTables};
+ghost use Rattle.graph.specs.HeldGraph.{graphIn};
 ghost use Rattle.planfile.specs.FormatLaws.{Fits};
 ghost use Rattle.engine.specs.Engine.{planWith, planOf};
 ghost use Rattle.engine.specs.Best.{SentBack, FinishedSheet};
@@ -42,15 +44,15 @@ pub fn best_plan(
     ends: &[u16],
     weights: &[u32],
     landings: &[u16],
-    cells: &[u32],
+    cells: &[Cost],
     n: u16,
     k: u8,
     arcs: u16,
     buffer: &mut [u8],
 ) -> Answer
-    requires { ⌜ FinishedSheet n k arcs (now starts) (now ends) (now weights) (now landings) (now cells) ⌝ }
-    ensures { λ r. ⌜ SentBack (planOf (graphIn n k arcs (now (starts .entry)) (now (ends .entry)) (now (weights .entry)) (now (landings .entry))))
-        (stated r) (now (buffer .entry)) (now (buffer .exit)) ⌝ }
+    requires { ⌜ (let t = sheetTables (now starts) (now ends) (now weights) (now landings) in FinishedSheet n k arcs t (now cells)) ⌝ }
+    ensures { λ r. ⌜ (let t = sheetTables (now (starts .entry)) (now (ends .entry)) (now (weights .entry)) (now (landings .entry)) in
+        SentBack (planOf (graphIn n k arcs t)) (stated r) (now (buffer .entry)) (now (buffer .exit))) ⌝ }
 {
     let root = best_root(cells, n, k);
     let cost = cell(cells, k, root, Subset::full(k));

@@ -6,6 +6,8 @@ pub mod Rule
 pub mod PointOne
 pub mod PointTwo
 pub mod PointThree
+-- point 3 where every site may be a root
+pub mod EverySite
 -- the rule gives one plan
 pub mod OnePlan
 -- laws that the proofs of the points share

@@ -61,7 +61,8 @@ module _ (G : Graph) where
   one-plan root root' cost cost' L L' a b =
       let x = a .root-is .holds in
       let y = b .root-is .holds in
-      let costs : cost ≡ cost' = omega (arith, x .least root' cost' (y .node) (y .costs), y .least root cost (x .node) (x .costs)) in
+      let costs : cost ≡ cost' =
+      omega (arith, x .least root' cost' (y .node) (y .may-root) (y .costs), y .least root cost (x .node) (x .may-root) (x .costs)) in
       let roots : root ≡ root' =
       lowest-one (LeastRoot G cost') root root' (subst (λ (z : ℕ). Lowest (LeastRoot G z) root) costs (a .root-is)) (b .root-is) in
       (roots, costs, added-one (subst (λ (z : ℕ). Added G z (full (G .terminals)) L) roots (a .laid)) (b .laid))

@@ -1,19 +1,25 @@
 -- Laws that the proofs of the points share: a plan is no refusal, and has one root, total and leg count; a refusal has one number; a good
--- sheet has one verdict; what is stated of a sheet's fault is a refusal with a number from 1 to 10, of the sheet; loaded tables hold the sheet.
+-- sheet has one verdict; what is stated of a sheet's fault is a refusal with a number from 1 to 10, of the sheet.
+-- What an entry point gives by its opening gives 1 to 11 where they are due.
 -- Assumes nothing.
-use Prim.Native.Nat.{ℕ, _≤_}
+use Prim.Native.Nat.{ℕ, _≤_, _<_}
 use mathlib.Core.Path.{_≡_, refl, sym, ap, _∙_, subst}
 use mathlib.Core.List.{List}
 use native.Mathlib.Omega.{arith}
-use Rattle.limits.specs.Refusals.{shortSheet, strangeMark, badHead, noSuchSite, noSuchStation, loop, badPrice, tooManyLegs, afterTheEnd, unheard}
+use Rattle.limits.specs.Refusals.{shortSheet, strangeMark, badHead, noSuchSite, noSuchStation, loop, badPrice, tooManyLegs, afterTheEnd, unheard, shortTables}
 use Rattle.answer.specs.Stated.{Family, Stated, plan, cell, sender, noSender, refused, statedSheet}
 use Rattle.answer.specs.declared.SheetFault.{SheetFault}
 use Rattle.answer.specs.declared.SheetFault.the-variants.{ShortSheet, StrangeMark, BadHead, NoSuchSite, NoSuchStation, Loop, BadPrice}
 use Rattle.answer.specs.declared.SheetFault.the-variants.{TooManyLegs, AfterTheEnd, Unheard}
 use Rattle.sheet.specs.Verdict.{Verdict, good, bad, verdict}
 use Rattle.sheet.specs.declared.record.Record.{Record}
-use Rattle.loader.specs.Tables.{Tables, loaded}
-use Rattle.mission.specs.PointOne.{PlanOrRefusal, HoldsSheet}
+use Rattle.lent_tables.specs.SheetTables.{SheetTables}
+use Rattle.lent_tables.specs.Lengths.{AllLong}
+use Rattle.opener.specs.Opening.{SheetOpening, sheetOpening}
+use Rattle.opener.specs.Cases.{opening-bad, opening-short, opening-good}
+use Rattle.lent_tables.specs.declared.FurtherLengths.{FurtherLengths}
+use Rattle.mission.specs.Runs.{Run, runOpened}
+use Rattle.mission.specs.PointOne.{PlanOrRefusal, FirstDue}
 
 -- the number of a refusal; what is no refusal has 0
 abbrev pub numberIn : Stated → ℕ
@@ -88,7 +94,16 @@ sheet-refusal May may (TooManyLegs p) = (may tooManyLegs (omega arith) (omega ar
 sheet-refusal May may (AfterTheEnd p) = (may afterTheEnd (omega arith) (omega arith), refl)
 sheet-refusal May may (Unheard p) = (may unheard (omega arith) (omega arith), refl)
 
--- loaded tables
-pub loaded-holds : (n : ℕ) (records : List Record) (t : Tables) → HoldsSheet n records t (loaded n records t)
-unfolding loaded
-loaded-holds n records t = record { starts = refl; ends = refl; weights = refl; landings = refl }
+-- ---- what an entry point gives by its opening
+
+module _ {Lent : Type 0} (s : List ℕ) (t : SheetTables) (f : FurtherLengths) (lent : Lent) (next : (n k : ℕ) → List Record → Run Lent) where
+  -- 1 to 11 are given where they are due, if what is done with the sheet gives none of them
+  pub first-due : ((n k : ℕ) (records : List Record) → verdict s ≡ good n k records → (family : Family) (number place : ℕ)
+      → next n k records .answer ≡ refused family number place → shortTables < number)
+      → FirstDue s (λ n k m. AllLong n k m t f) (runOpened lent next (sheetOpening s t f) .answer)
+  first-due later = record {
+    spoilt = λ fault e. ap (λ (o : SheetOpening). runOpened lent next o .answer) (opening-bad s t f fault e);
+    short = λ n k records e short. ap (λ (o : SheetOpening). runOpened lent next o .answer) (opening-short s t f n k records e short);
+    passed = λ n k records e long family number place same.
+        later n k records e family number place (sym (ap (λ (o : SheetOpening). runOpened lent next o .answer) (opening-good s t f n k records e long)) ∙ same);
+  }

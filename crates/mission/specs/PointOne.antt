@@ -5,7 +5,7 @@ use Prim.Native.Nat.{ℕ, _<_, _≤_}
 use mathlib.Core.Path.{_≡_}
 use mathlib.Core.Logic.{_⊎_}
 use mathlib.Core.Bool.{cond}
-use mathlib.Core.List.{List, map}
+use mathlib.Core.List.{List}
 use lib.Dec.{leb, eqb}
 use lib.ListN.{length, getD, replicate}
 use Rattle.limits.specs.Limits.{noCost}
@@ -15,13 +15,12 @@ use Rattle.answer.specs.Stated.{Family, ofSheet, ofTables, ofSearch, ofPlanFile
 use Rattle.answer.specs.declared.SheetFault.{SheetFault}
 use Rattle.graph.specs.Paths.{DirectedPath}
 use Rattle.sheet.specs.Arcs.{arcs}
-use Rattle.sheet.specs.Landings.{terminalSets}
 use Rattle.sheet.specs.Verdict.{good, bad, verdict}
 use Rattle.sheet.specs.declared.record.Record.{Record}
-use Rattle.loader.specs.Tables.{Tables}
+use Rattle.loader.specs.Loaded.{loaded}
 use Rattle.network.specs.Network.{graphOf}
 use Rattle.planfile.specs.Format.{rootIn, arcsIn}
-use Rattle.table.specs.Cells.{costTable}
+use Rattle.cost_table.specs.Cells.{costTable}
 use Rattle.mission.specs.Runs.{ReaderTables, ReaderLong, Reader, EngineTables, EngineLong, Engine, GoodWith}
 
 -- ---- one plan or one refusal
@@ -61,16 +60,10 @@ pub record FirstDue (sheet : List ℕ) (Long : (n k arcCount : ℕ) → Type 0) 
 
 -- ---- the tables
 
--- "the first entries of these hold the legs in order, each site's set of stations": later entries are untouched
-pub record HoldsSheet (n : ℕ) (records : List Record) (before after : Tables) : Type 0 where
-  pub starts : after .starts ≡ over (map (λ a. a .start) (arcs records)) (before .starts)
-  pub ends : after .ends ≡ over (map (λ a. a .end) (arcs records)) (before .ends)
-  pub weights : after .weights ≡ over (map (λ a. a .weight) (arcs records)) (before .weights)
-  pub landings : after .landings ≡ over (terminalSets n records) (before .landings)
-
--- as after a plan: "the legs in order, each site's set of stations, the costs, and 1 in each mark; later entries are untouched"
+-- as after a plan: "the first entries of these hold the legs in order, each site's set of stations" (`loaded` of crate loader), "the costs, and 1
+-- in each mark; later entries are untouched"
 pub record AsAfterPlan (n k : ℕ) (records : List Record) (before after : EngineTables) : Type 0 where
-  pub tables : HoldsSheet n records (before .tables) (after .tables)
+  pub tables : after .tables ≡ loaded n records (before .tables)
   pub cells : after .cells ≡ over (costTable (graphOf n k records) noCost) (before .cells)
   pub marks : after .marks ≡ over (replicate n 1) (before .marks)
 
@@ -104,12 +97,12 @@ pub record MarksReached (n k : ℕ) (records : List Record) (file before after :
 
 -- the leg and landing tables are filled, and the marks are written
 pub record AsRead (n k : ℕ) (records : List Record) (file : List ℕ) (before after : ReaderTables) : Type 0 where
-  pub tables : HoldsSheet n records (before .tables) (after .tables)
+  pub tables : after .tables ≡ loaded n records (before .tables)
   pub marks : MarksReached n k records file (before .marks) (after .marks)
 
 -- the leg and landing tables are filled, and the marks are untouched
 pub record AsOpened (n : ℕ) (records : List Record) (before after : ReaderTables) : Type 0 where
-  pub tables : HoldsSheet n records (before .tables) (after .tables)
+  pub tables : after .tables ≡ loaded n records (before .tables)
   pub marks : after .marks ≡ before .marks
 
 -- of one run: "1 to 11 touch nothing"; "from 14 on and on acceptance, has filled the leg and landing tables; from 17 on and on acceptance the
@@ -125,7 +118,7 @@ pub record ReaderSafe (sheet file : List ℕ) (before : ReaderTables) (answer : 
 
 -- and 1 to 11 are given where they are due
 abbrev pub ReaderAnswers : (sheet file : List ℕ) → ReaderTables → Stated → ReaderTables → Type 0
-ReaderAnswers sheet file before answer after = ReaderSafe sheet file before answer after × FirstDue sheet (λ n k m. ReaderLong n m before) answer
+ReaderAnswers sheet file before answer after = ReaderSafe sheet file before answer after × FirstDue sheet (λ n k m. ReaderLong n k m before) answer
 
 -- of every run of a plan reader, whatever was lent
 abbrev pub ReaderPointOne : Reader → Type 0

@@ -7,6 +7,7 @@ use Prim.Native.Nat.{ℕ, _<_, _≤_}
 use mathlib.Core.Path.{_≡_}
 use mathlib.Core.Logic.{_↔_}
 use mathlib.Core.List.{List}
+use lib.Dec.{T}
 use lib.ListN.{length}
 use Rattle.limits.specs.Refusals.{noPlan, shortBuffer}
 use Rattle.answer.specs.Stated.{Stated, plan, refused, ofTables, ofSearch}
@@ -14,7 +15,7 @@ use Rattle.graph.specs.Graph.{Graph}
 use Rattle.graph.specs.Paths.{ReachesAll}
 use Rattle.graph.specs.Subtrees.{Subtree, CoversAll, total}
 use Rattle.sheet.specs.Arcs.{arcs}
-use Rattle.sheet.specs.Fields.{Bytes}
+use Rattle.number_fields.specs.Fields.{Bytes}
 use Rattle.sheet.specs.Verdict.{good, verdict}
 use Rattle.sheet.specs.declared.record.Record.{Record}
 use Rattle.network.specs.Network.{graphOf}
@@ -23,9 +24,10 @@ use Rattle.mission.specs.Runs.{ReaderTables, Reader, EngineTables, Engin
 use Rattle.mission.specs.PointTwo.{Accepts}
 use Rattle.mission.specs.Rule.{ByRule}
 
--- "every directed subtree of the sheet's legs that holds a site of every station has at least" this total
+-- "every directed subtree of the sheet's legs that holds a site of every station has at least" this total. The root is a site that may be a
+-- root: in the base, any site, so that this is the mission's sentence as it stands (`sheet-none-cheaper` in EverySite.antt).
 abbrev pub NoneCheaper : Graph → ℕ → Type 0
-NoneCheaper G cost = (root : ℕ) (L : List ℕ) → Subtree G root L → CoversAll G root L → cost ≤ total G root L
+NoneCheaper G cost = (root : ℕ) (L : List ℕ) → T (G .mayRoot root) → Subtree G root L → CoversAll G root L → cost ≤ total G root L
 
 -- "For every sheet that the engine plans and every plan file that the reader accepts against that sheet, the engine's total equals the file's
 -- exactly when every directed subtree of the sheet's legs that holds a site of every station has at least the file's total."
@@ -34,9 +36,10 @@ BestTotal sheet answer read =
     (root cost count : ℕ) → answer ≡ plan root cost count → (file : List ℕ) → Bytes file → (t : ReaderTables) → Accepts (read sheet file t .answer)
     → (n k : ℕ) (records : List Record) → verdict sheet ≡ good n k records → (cost ≡ totalIn file) ↔ NoneCheaper (graphOf n k records) (totalIn file)
 
--- some site has directed paths to a site of every station
+-- some site "has directed paths to a site of every station". The site is one that may be a root: in the base, any site, so that this too is as
+-- the mission says it (`sheet-some-reaches` in EverySite.antt).
 abbrev pub SomeReachesAll : Graph → Type 0
-SomeReachesAll G = (v : ℕ) × (v < G .nodes) × ReachesAll G v
+SomeReachesAll G = (v : ℕ) × (v < G .nodes) × T (G .mayRoot v) × ReachesAll G v
 
 -- "The plan buffer is long enough when it has at least as many bytes as the file of the plan laid out below": the plan by the stated rule, of
 -- which there is one (`one-plan` in OnePlan.antt). Only this, and 13 below, speak of the rule.

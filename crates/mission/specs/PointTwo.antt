@@ -8,13 +8,14 @@ use mathlib.Core.Path.{_≡_}
 use mathlib.Core.Logic.{_↔_}
 use mathlib.Core.Option.{some}
 use mathlib.Core.List.{List}
+use lib.Dec.{T}
 use lib.ListN.{length}
 use Rattle.lists.specs.Over.{over}
 use Rattle.answer.specs.Stated.{Stated, plan}
 use Rattle.graph.specs.Graph.{Graph}
 use Rattle.graph.specs.Subtrees.{Subtree, CoversAll, total}
 use Rattle.sheet.specs.Arcs.{arcs}
-use Rattle.sheet.specs.Fields.{Bytes}
+use Rattle.number_fields.specs.Fields.{Bytes}
 use Rattle.sheet.specs.Verdict.{good, verdict}
 use Rattle.sheet.specs.declared.record.Record.{Record}
 use Rattle.network.specs.Network.{graphOf}
@@ -24,8 +25,9 @@ use Rattle.mission.specs.Rule.{ByRule}
 
 -- "such a subtree": "a directed subtree by Kimelfeld and Sagiv's definition: its legs are on the sheet, it holds a site of every station, its
 -- total is the sum of its prices". That `Subtree` is document 004's, and that `total` is the sum of the prices, are theorems about the graph
--- of a sheet: `sheet-one-path` and `sheet-total` in crate network.
+-- of a sheet: `sheet-one-path` and `sheet-total` in crate network. Its root is a site that may be a root: in the base, any site.
 pub record IsPlan (G : Graph) (root cost : ℕ) (L : List ℕ) : Type 0 where
+  pub may-root : T (G .mayRoot root)
   pub subtree : Subtree G root L
   pub covers : CoversAll G root L
   pub true-total : cost ≡ total G root L
@@ -42,7 +44,7 @@ pub record EncodesPlan (G : Graph) (file : List ℕ) (root cost count : ℕ) : T
 -- a run's answer is an acceptance with a root, a total and a leg count exactly when the file encodes such a subtree with them
 abbrev pub AcceptsPlans : (sheet file : List ℕ) → ReaderTables → Stated → Type 0
 AcceptsPlans sheet file t answer =
-    (n k : ℕ) (records : List Record) → verdict sheet ≡ good n k records → ReaderLong n (length (arcs records)) t
+    (n k : ℕ) (records : List Record) → verdict sheet ≡ good n k records → ReaderLong n k (length (arcs records)) t
     → (root cost count : ℕ) → (answer ≡ plan root cost count) ↔ EncodesPlan (graphOf n k records) file root cost count
 
 -- every run of a plan reader, for all bytes, whatever the lent tables held before
@@ -57,7 +59,7 @@ abbrev pub EncodesSome : Graph → List ℕ → Type 0
 EncodesSome G file = (root : ℕ) × (cost : ℕ) × (count : ℕ) × EncodesPlan G file root cost count
 
 pub accepts-iff : (sheet file : List ℕ) (t : ReaderTables) (answer : Stated) → AcceptsPlans sheet file t answer
-    → (n k : ℕ) (records : List Record) → verdict sheet ≡ good n k records → ReaderLong n (length (arcs records)) t
+    → (n k : ℕ) (records : List Record) → verdict sheet ≡ good n k records → ReaderLong n k (length (arcs records)) t
     → Accepts answer ↔ EncodesSome (graphOf n k records) file
 accepts-iff sheet file t answer point n k records e long = (
   (λ a. let (root, cost, count, q) = a in let (there, _) = point n k records e long root cost count in (root, cost, count, there q)),
@@ -81,7 +83,7 @@ pub record PlanWritten (G : Graph) (root cost count : ℕ) (before after : List 
 -- and the plan reader accepts that file against the sheet, with long enough tables, with the same root, total and leg count
 pub record PlanAccepted (read : Reader) (sheet : List ℕ) (root cost count : ℕ) (before after : List ℕ) (n k : ℕ) (records : List Record) : Type 0 where
   pub plan-written : PlanWritten (graphOf n k records) root cost count before after
-  pub accepted : (t : ReaderTables) → ReaderLong n (length (arcs records)) t → read sheet (plan-written .file) t .answer ≡ plan root cost count
+  pub accepted : (t : ReaderTables) → ReaderLong n k (length (arcs records)) t → read sheet (plan-written .file) t .answer ≡ plan root cost count
 
 -- of one run of an engine, against a plan reader
 abbrev pub EngineSound : Reader → (sheet : List ℕ) → EngineTables → Stated → EngineTables → Type 0

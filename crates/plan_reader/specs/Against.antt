@@ -17,12 +17,13 @@ use Rattle.subset.specs.Sets.{full, isPart}
 use Rattle.answer.specs.Stated.{Stated, statedPlanFile}
 use Rattle.answer.specs.declared.PlanFault.{PlanFault}
 use Rattle.graph.specs.Graph.{Graph}
-use Rattle.graph.specs.InTables.{start-in, end-in}
+use Rattle.lent_tables.specs.SheetTables.{SheetTables, arcsAlone}
+use Rattle.graph.specs.HeldGraph.{graphIn, start-in, end-in}
 use Rattle.graph.specs.Subtrees.{total, isTree, isCovering}
 use Rattle.graph.specs.Theorems.{tree-test}
 use Rattle.graph.specs.laws.SubtreeParts.{total-weights}
-use Rattle.loader.specs.Tables.{Tables}
-use Rattle.network.specs.Network.{graphHeld}
+use Rattle.lent_tables.specs.Lengths.{marksOnly}
+use Rattle.network.specs.HeldSheet.{HeldSheet}
 use Rattle.planfile.specs.Format.{fileSize, rootIn, listedArc, arcsTo, arcsIn}
 use Rattle.plan_reader.specs.Reader.{fileFault, firstFailed, planFault, treeFault, orElse, answeredAs, answered, answerTo}
 use Rattle.plan_reader.specs.Reader.{marksOf, marksBy, marksAfter}
@@ -33,24 +34,23 @@ use Rattle.plan_reader.specs.Marks.{marks-size, marks-agree}
 use Rattle.plan_reader.specs.Marking.{linkGraph, Within}
 use Rattle.plan_reader.specs.Judging.{ArcsBelow, markedCount, markedTerminals, weightSum, judgedFault}
 use Rattle.plan_reader.specs.Judging.{tree-by-count, covering-by-marks, weights-sum}
-use Rattle.plan_reader.specs.Ready.{Ready}
 use Rattle.plan_reader.specs.declared.file.Opened.the-variants.{Fields, Fault}
 
 -- what the reading of the listed arcs asks for
-pub record ArcsReady (file : List ℕ) (root count k : ℕ) (starts ends weights landings marks : List ℕ) : Type 0 where
+pub record ArcsReady (file : List ℕ) (root count k : ℕ) (t : SheetTables) (marks : List ℕ) : Type 0 where
   pub root-on : root < length marks
   pub whole : fileSize count ≤ length file
-  pub within : Within (length marks) (arcsTo file count) starts ends
-  pub below : ArcsBelow file count (length weights)
-  pub landed : length marks ≤ length landings
+  pub within : Within (length marks) (arcsTo file count) (t .starts) (t .ends)
+  pub below : ArcsBelow file count (length (t .weights))
+  pub landed : length marks ≤ length (t .landings)
   pub terminals : k ≤ maxTerminals
 
-module _ (n k m : ℕ) (t : Tables) (marks file : List ℕ) (ready : Ready n k m t marks) where
+module _ (n k m : ℕ) (t : SheetTables) (marks file : List ℕ) (ready : HeldSheet n k m t (marksOnly (length marks))) where
   abbrev G : Graph
-  G = graphHeld n k m t
+  G = graphIn n k m t
 
   part-size : length (take n marks) ≡ n
-  part-size = omega (arith, length-take n marks, ready .long .marks)
+  part-size = omega (arith, length-take n marks, ready .long .further .marks)
 
   -- a fault of the file by itself
   pub fault-read : (f : PlanFault) → Fault f ≡ openedOf n m file → (statedPlanFile f ≡ answerTo G file) × (marks ≡ marksAfter G file marks)
@@ -88,30 +88,30 @@ module _ (n k m : ℕ) (t : Tables) (marks file : List ℕ) (ready : Ready n k m
       in-starts = λ e i. omega (arith, listed-below e i, ready .long .tables .starts);
       in-ends = λ e i. omega (arith, listed-below e i, ready .long .tables .ends);
       start-lt = λ e i.
-          subst (λ (x : ℕ). x < n) (start-in n k m (t .starts) (t .ends) (t .weights) (t .landings) e (listed-below e i))
+          subst (λ (x : ℕ). x < n) (start-in n k m t e (listed-below e i))
           (ready .sound .start-lt e (listed-below e i));
       end-lt = λ e i.
-          subst (λ (x : ℕ). x < n) (end-in n k m (t .starts) (t .ends) (t .weights) (t .landings) e (listed-below e i))
+          subst (λ (x : ℕ). x < n) (end-in n k m t e (listed-below e i))
           (ready .sound .end-lt e (listed-below e i));
     }
 
-    pub arcs-ready : ArcsReady file root count k (t .starts) (t .ends) (t .weights) (t .landings) (take n marks)
+    pub arcs-ready : ArcsReady file root count k t (take n marks)
     arcs-ready = record {
       root-on = omega (arith, root-below, part-size);
       whole = omega (arith, ap fileSize (fields .count-is), ok .head .size);
       within = subst (λ (x : ℕ). Within x L (t .starts) (t .ends)) (sym part-size) within;
       below = λ i l. omega (arith, below i l, ready .long .tables .weights);
       landed = omega (arith, part-size, ready .long .tables .landings);
-      terminals = ready .terminals;
+      terminals = ready .terminals .1;
     }
 
     -- the marks are those of the graph that the tables hold
     marks-held : marksOf (linkGraph (length (take n marks)) (t .starts) (t .ends)) L root ≡ marksOf G L root
     marks-held = marks-agree (linkGraph (length (take n marks)) (t .starts) (t .ends)) G L root part-size (λ e i. (
-      start-in (length (take n marks)) 0 (length (t .starts)) (t .starts) (t .ends) [] [] e (within .in-starts e i)
-          ∙ sym (start-in n k m (t .starts) (t .ends) (t .weights) (t .landings) e (listed-below e i)),
-      end-in (length (take n marks)) 0 (length (t .starts)) (t .starts) (t .ends) [] [] e (within .in-starts e i)
-          ∙ sym (end-in n k m (t .starts) (t .ends) (t .weights) (t .landings) e (listed-below e i)),
+      start-in (length (take n marks)) 0 (length (t .starts)) (arcsAlone (t .starts) (t .ends) []) e (within .in-starts e i)
+          ∙ sym (start-in n k m t e (listed-below e i)),
+      end-in (length (take n marks)) 0 (length (t .starts)) (arcsAlone (t .starts) (t .ends) []) e (within .in-starts e i)
+          ∙ sym (end-in n k m t e (listed-below e i)),
     ))
 
     -- the tests by the marks are those of the definition
@@ -132,14 +132,14 @@ module _ (n k m : ℕ) (t : Tables) (marks file : List ℕ) (ready : Ready n k m
         summed : eqb cost (weightSum file count (t .weights)) ≡ eqb cost (total G root L)
         summed =
             ap (eqb cost)
-            (weights-sum n k m (t .starts) (t .ends) (t .weights) (t .landings) file count listed-below ∙ sym (total-weights G (λ v. refl) root L))
+            (weights-sum n k m t file count listed-below ∙ sym (total-weights G (λ v. refl) root L))
 
         go : (b : Bool) → isTree G root L ≡ b
             → firstFailed b covered (eqb cost (total G root L)) ≡ firstFailed b (isCovering G root L (full k)) (eqb cost (total G root L))
         go false q = refl
         go true q = let (from-tree, _) = tree-test G root L root-below arcs in
             ap (λ (held : Bool). firstFailed true held (eqb cost (total G root L)))
-            (covering-by-marks n k m (t .starts) (t .ends) (t .weights) (t .landings) (ready .sound) root L
+            (covering-by-marks n k m t (ready .sound) root L
             (from-tree (true-fact q)))
 
     -- the answer and the marks after the listed arcs are read

@@ -16,7 +16,7 @@ use Rattle.lists.specs.Numbers.{numbers, listed-number}
 use Rattle.lists.specs.Tests.{true-fact, false-not-fact, not-both}
 use Rattle.answer.specs.declared.PlanFault.{PlanFault}
 use Rattle.answer.specs.declared.PlanFault.the-variants.{CutPlan, BadPlan, UnknownNumber, NoTree, StationMissed, FalseTotal}
-use Rattle.sheet.specs.Fields.{number16}
+use Rattle.number_fields.specs.Fields.{number16}
 use Rattle.planfile.specs.Format.{fileSize, rootIn, countIn, markAt, listedArc, arcsIn}
 use Rattle.plan_reader.specs.Reader.{headFault, arcFault, isFault, faultAt, arcsFault, orElse, fileFault, firstFailed}
 

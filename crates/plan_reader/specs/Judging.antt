@@ -21,8 +21,9 @@ use Rattle.subset.specs.Terminals.{has-empty}
 use Rattle.subset.specs.Parts.{full-part, full-every}
 use Rattle.subset.specs.Unions.{unionTo, has-unionTo}
 use Rattle.answer.specs.declared.PlanFault.{PlanFault}
+use Rattle.lent_tables.specs.SheetTables.{SheetTables}
 use Rattle.graph.specs.Graph.{Graph, Sound, Landing}
-use Rattle.graph.specs.InTables.{graphIn, weight-in, landings-in}
+use Rattle.graph.specs.HeldGraph.{graphIn, weight-in, landings-in}
 use Rattle.graph.specs.Paths.{isReached}
 use Rattle.graph.specs.Subtrees.{Subtree, held, isTree, isCovering}
 use Rattle.graph.specs.laws.Holding.{held-reached, reached-held}
@@ -94,11 +95,11 @@ module _ (marks landings : List ℕ) (v i : ℕ) where
   has-marked m t =
       subst (λ (b : Bool). T (has (cond b (terminalsIn (getD landings v 0)) empty) i)) (sym (fact-true {b = eqb (getD marks v 0) 1} (eq-fact m))) t
 
-pub covering-by-marks : (n k m : ℕ) (starts ends weights landings : List ℕ) → Sound (graphIn n k m starts ends weights landings)
-    → (r : ℕ) (L : List ℕ) → Subtree (graphIn n k m starts ends weights landings) r L
-    → isPart (full k) (markedTerminals (marksOf (graphIn n k m starts ends weights landings) L r) landings)
-    ≡ isCovering (graphIn n k m starts ends weights landings) r L (full k)
-covering-by-marks n k m starts ends weights landings sound r L t =
+pub covering-by-marks : (n k m : ℕ) (t : SheetTables) → Sound (graphIn n k m t)
+    → (r : ℕ) (L : List ℕ) → Subtree (graphIn n k m t) r L
+    → isPart (full k) (markedTerminals (marksOf (graphIn n k m t) L r) (t .landings))
+    ≡ isCovering (graphIn n k m t) r L (full k)
+covering-by-marks n k m t sound r L tree =
     ap (λ (i : ℕ). isPart (full k) (unionTo i at)) size ∙ same-tests (isPart (full k) found) (isCovering G r L (full k))
     (λ p.
     let (every, _) = full-part k found in
@@ -108,10 +109,10 @@ covering-by-marks n k m starts ends weights landings sound r L t =
     part (λ i l. let (_, in-union) = has-unionTo n at i in in-union (at-node i (test-covers G r L (full k) p i l (full-every k (full k) refl i l)))))
   where
     G : Graph
-    G = graphIn n k m starts ends weights landings
+    G = graphIn n k m t
 
     at : ℕ → ℕ
-    at = terminalsMarked (marksOf G L r) landings
+    at = terminalsMarked (marksOf G L r) (t .landings)
 
     found : ℕ
     found = unionTo n at
@@ -122,26 +123,26 @@ covering-by-marks n k m starts ends weights landings sound r L t =
     -- a terminal with a landing at a marked node has one at a held node, and the other way round
     landed : (i : ℕ) → (v : ℕ) × (v < n) × T (has (at v) i) → (v : ℕ) × T (listed v (held G r L)) × Landing G i v
     landed i (v, l, h) =
-        let (marked, landing) = marked-has (marksOf G L r) landings v i h in (
+        let (marked, landing) = marked-has (marksOf G L r) (t .landings) v i h in (
           v,
           reached-held G r L (marked-path G L r v l marked),
-          subst (λ (w : ℕ). T (has w i)) (sym (landings-in n k m starts ends weights landings v l)) landing,
+          subst (λ (w : ℕ). T (has w i)) (sym (landings-in n k m t v l)) landing,
         )
 
     at-node : (i : ℕ) → (v : ℕ) × T (listed v (held G r L)) × Landing G i v → (v : ℕ) × (v < n) × T (has (at v) i)
     at-node i (v, here, landing) =
-        let l : v < n = held-lt t sound v here in
-        let marked = path-marked G L r v l (held-reached G r L (start-reached t) v here) in
-        (v, l, has-marked (marksOf G L r) landings v i marked (subst (λ (w : ℕ). T (has w i)) (landings-in n k m starts ends weights landings v l) landing))
+        let l : v < n = held-lt tree sound v here in
+        let marked = path-marked G L r v l (held-reached G r L (start-reached tree) v here) in
+        (v, l, has-marked (marksOf G L r) (t .landings) v i marked (subst (λ (w : ℕ). T (has w i)) (landings-in n k m t v l) landing))
 
 -- ---- 19: the sum of the weights
 
-pub weights-sum : (n k a : ℕ) (starts ends weights landings file : List ℕ) (m : ℕ) → ((e : ℕ) → T (listed e (arcsTo file m)) → e < a)
-    → weightSum file m weights ≡ sumBy (graphIn n k a starts ends weights landings .weight) (arcsTo file m)
-weights-sum n k a starts ends weights landings file m arcs =
-    sumTo-same m (λ i. getD weights (listedArc file i) 0) (λ i. G .weight (listedArc file i))
-    (λ i l. sym (weight-in n k a starts ends weights landings (listedArc file i) (arcs (listedArc file i) (value-in (listedArc file) m i l))))
+pub weights-sum : (n k a : ℕ) (t : SheetTables) (file : List ℕ) (m : ℕ) → ((e : ℕ) → T (listed e (arcsTo file m)) → e < a)
+    → weightSum file m (t .weights) ≡ sumBy (graphIn n k a t .weight) (arcsTo file m)
+weights-sum n k a t file m arcs =
+    sumTo-same m (λ i. getD (t .weights) (listedArc file i) 0) (λ i. G .weight (listedArc file i))
+    (λ i l. sym (weight-in n k a t (listedArc file i) (arcs (listedArc file i) (value-in (listedArc file) m i l))))
     ∙ sum-values (G .weight) (listedArc file) m
   where
     G : Graph
-    G = graphIn n k a starts ends weights landings
+    G = graphIn n k a t

@@ -11,7 +11,6 @@ pub mod Returned
 pub mod Marking
 pub mod Judging
 -- the file against the tables
-pub mod Ready
 pub mod Against
 -- the whole, and the mission's points
 pub mod Whole

@@ -17,8 +17,9 @@ use Rattle.lists.specs.Count.{bit}
 use Rattle.lists.specs.Listed.{listed, listed-only, listed-append}
 use Rattle.lists.specs.Numbers.{numbers, values-more}
 use Rattle.lists.specs.Sums.{sumTo, sumTo-lt}
+use Rattle.lent_tables.specs.SheetTables.{arcsAlone}
 use Rattle.graph.specs.Graph.{Graph}
-use Rattle.graph.specs.InTables.{graphIn, start-in, end-in}
+use Rattle.graph.specs.HeldGraph.{graphIn, start-in, end-in}
 use Rattle.graph.specs.Paths.{DirectedPath, isReached}
 use Rattle.graph.specs.laws.Reaching.{path-same, path-then, path-carries}
 use Rattle.graph.specs.laws.ReachTest.{reached-path, path-reached}
@@ -27,7 +28,7 @@ use Rattle.plan_reader.specs.Marks.{marks-size, mark-at}
 
 -- the graph of the tables of starts and ends alone
 abbrev pub linkGraph : ℕ → List ℕ → List ℕ → Graph
-linkGraph n starts ends = graphIn n 0 (length starts) starts ends [] []
+linkGraph n starts ends = graphIn n 0 (length starts) (arcsAlone starts ends [])
 
 -- the listed arcs are in the tables and lead between the first n nodes
 pub record Within (n : ℕ) (L starts ends : List ℕ) : Type 0 where
@@ -199,10 +200,10 @@ progress-more G seen before after false e at-e p = (p .0, settled-more G seen af
 module _ (n : ℕ) (L starts ends : List ℕ) (within : Within n L starts ends) (before marks : List ℕ) (b : Bool) (e : ℕ) (t : T (listed e L)) where
   -- the start and the end of a listed arc, as code reads them
   arc-start : linkGraph n starts ends .start e ≡ getD starts e 0
-  arc-start = start-in n 0 (length starts) starts ends [] [] e (within .in-starts e t)
+  arc-start = start-in n 0 (length starts) (arcsAlone starts ends []) e (within .in-starts e t)
 
   arc-end : linkGraph n starts ends .end e ≡ getD ends e 0
-  arc-end = end-in n 0 (length starts) starts ends [] [] e (within .in-starts e t)
+  arc-end = end-in n 0 (length starts) (arcsAlone starts ends []) e (within .in-starts e t)
 
   -- the arc marks its end
   pub passing-marks : (seen more after : List ℕ) (marked : Bool) → length before ≡ n → Passing (linkGraph n starts ends) L seen before marks b

@@ -1,7 +1,7 @@
 -- The mission, point 1, of the plan reader's answer as it is defined; and what a run of the plan reader cites of points 1 and 2.
 -- Assumes nothing.
 use Prim.Native.Nat.{ℕ, _≤_, _<_}
-use mathlib.Core.Path.{_≡_, refl, sym, ap, _∙_, subst}
+use mathlib.Core.Path.{_≡_, refl, sym, ap, subst}
 use mathlib.Core.Logic.{inl, inr}
 use mathlib.Core.Bool.{Bool, true, false, cond, not}
 use mathlib.Core.Option.{Option, none, some}
@@ -14,7 +14,6 @@ use Rattle.limits.specs.Marks.{markPN, markLG}
 use Rattle.limits.specs.Refusals.{shortTables, cutPlan, unknownNumber, noTree, falseTotal}
 use Rattle.lists.specs.Find.{first}
 use Rattle.lists.specs.Over.{length-over}
-use Rattle.lists.specs.Tests.{by-test}
 use Rattle.subset.specs.Sets.{full}
 use Rattle.answer.specs.Stated.{Family, Stated, plan, refused, ofTables, statedSheet, statedPlanFile}
 use Rattle.answer.specs.OneToOne.{refusal-no-plan}
@@ -26,20 +25,22 @@ use Rattle.graph.specs.Graph.{Graph}
 use Rattle.graph.specs.Paths.{DirectedPath}
 use Rattle.graph.specs.Subtrees.{total, isTree, isCovering}
 use Rattle.sheet.specs.Arcs.{arcs}
-use Rattle.sheet.specs.Fields.{Bytes, number16}
-use Rattle.sheet.specs.Verdict.{Verdict, good, bad, verdict}
+use Rattle.number_fields.specs.Fields.{Bytes, number16}
+use Rattle.sheet.specs.Verdict.{good, verdict}
 use Rattle.sheet.specs.declared.record.Record.{Record}
-use Rattle.loader.specs.Tables.{loaded}
+use Rattle.loader.specs.Loaded.{loaded}
+use Rattle.opener.specs.Opening.{SheetOpening}
+use Rattle.opener.specs.Cases.{by-opening-cases}
 use Rattle.network.specs.Network.{graphOf}
 use Rattle.planfile.specs.Format.{fileSize, rootIn, totalIn, countIn, markAt, listedArc, arcsIn}
-use Rattle.mission.specs.Runs.{ReaderTables, readerTables, ReaderLong, GoodWith, Run, run}
+use Rattle.mission.specs.Runs.{ReaderTables, readerTables, readerFurther, ReaderLong, GoodWith, Run, run}
 use Rattle.mission.specs.PointOne.{PlanOrRefusal, ReaderNumber, MarksReached, AsRead, ReaderSafe, ReaderAnswers, ReaderPointOne}
 use Rattle.mission.specs.PointTwo.{AcceptsPlans}
-use Rattle.mission.specs.PointLaws.{numberIn, same-number, plan-not-refused, refused-not-plan, sheet-number, sheet-refusal, loaded-holds}
+use Rattle.mission.specs.PointLaws.{numberIn, same-number, plan-not-refused, refused-not-plan, sheet-number, sheet-refusal, first-due}
 use Rattle.plan_reader.specs.Reader.{headFault, arcFault, isFault, faultAt, arcsFault, orElse, fileFault, firstFailed, treeFault, answered}
-use Rattle.plan_reader.specs.Reader.{marksOf, marksBy, allLong, readAgainst, readingOf}
+use Rattle.plan_reader.specs.Reader.{marksOf, marksBy, readAgainst, readingOf}
 use Rattle.plan_reader.specs.Marks.{MarksSay, marks-say, marks-size}
-use Rattle.plan_reader.specs.Rules.{test-long, sheet-refused, test-failed, tables-short, file-read, file-refused, plan-refused, plan-accepted}
+use Rattle.plan_reader.specs.Rules.{given, file-refused, plan-refused, plan-accepted}
 use Rattle.plan_reader.specs.PointTwo.{point-two}
 
 -- ---- the numbers of faults
@@ -161,7 +162,7 @@ module _ (sheet file : List ℕ) (t : ReaderTables) where
     accepted = λ root cost count e. absurd (refused-not-plan e);
   }
 
-  module _ (n k : ℕ) (records : List Record) (e : verdict sheet ≡ good n k records) (long : ReaderLong n (length (arcs records)) t) where
+  module _ (n k : ℕ) (records : List Record) (e : verdict sheet ≡ good n k records) (long : ReaderLong n k (length (arcs records)) t) where
     -- the leg and landing tables are filled
     abbrev filled : List ℕ → ReaderTables
     filled marks = readerTables (loaded n records (t .tables)) marks
@@ -179,7 +180,7 @@ module _ (sheet file : List ℕ) (t : ReaderTables) where
         k = k;
         records = records;
         good-sheet = e;
-        holds = record { tables = loaded-holds n records (t .tables); marks = refl };
+        holds = record { tables = refl; marks = refl };
       };
       late = λ family number place q low. absurd (omega (arith, ap numberIn q, bounds));
       accepted = λ root cost count q. absurd (refusal-no-plan (PlanFile fault) root cost count q);
@@ -192,7 +193,7 @@ module _ (sheet file : List ℕ) (t : ReaderTables) where
         k = k;
         records = records;
         good-sheet = e;
-        holds = record { tables = loaded-holds n records (t .tables); marks = marks-reached n k records file (t .marks) (long .marks) passed };
+        holds = record { tables = refl; marks = marks-reached n k records file (t .marks) (long .further .marks) passed };
       }
 
       -- 17 to 19
@@ -231,16 +232,13 @@ module _ (sheet file : List ℕ) (t : ReaderTables) where
 -- ---- every run
 
 safe : (sheet file : List ℕ) (t : ReaderTables) → Safe sheet file t (readingOf sheet file t)
-safe sheet file t = go (verdict sheet) refl
-  where
-    go : (v : Verdict) → verdict sheet ≡ v → Safe sheet file t (readingOf sheet file t)
-    go (bad fault) e = subst (Safe sheet file t) (sym (sheet-refused sheet file t fault e)) (sheet-safe sheet file t fault)
-    go (good n k records) e =
-        by-test (allLong n (length (arcs records)) t) (λ _. Safe sheet file t (readingOf sheet file t))
-        (λ h.
-        let long = test-long n (length (arcs records)) t h in
-        subst (Safe sheet file t) (sym (file-read sheet file t n k records e long)) (read-safe sheet file t n k records e long))
-        (λ h. subst (Safe sheet file t) (sym (test-failed sheet file t n k records e h)) (short-safe sheet file t))
+safe sheet file t =
+    by-opening-cases sheet (t .tables) (readerFurther t) (λ (o : SheetOpening). Safe sheet file t (given sheet file t o))
+    (record {
+      spoilt = λ fault e. sheet-safe sheet file t fault;
+      short = λ n k records e short. short-safe sheet file t;
+      long = λ n k records e long. read-safe sheet file t n k records e long;
+    })
 
 -- the refusals of a plan file come after 11
 past-tables : (o : Option PlanFault) (file : List ℕ) (family : Family) (number place : ℕ) → answered o file ≡ refused family number place → shortTables < number
@@ -255,13 +253,9 @@ past-tables (some FalseTotal) file family number place same = omega (arith, same
 pub point-one : ReaderPointOne readingOf
 point-one sheet file t = (
   safe sheet file t,
-  record {
-    spoilt = λ fault e. ap (λ (r : Run ReaderTables). r .answer) (sheet-refused sheet file t fault e);
-    short = λ n k records e short. ap (λ (r : Run ReaderTables). r .answer) (tables-short sheet file t n k records e short);
-    passed = λ n k records e long family number place same.
-        past-tables (orElse (fileFault n (length (arcs records)) file) (treeFault (graphOf n k records) file)) file family number place
-        (sym (ap (λ (r : Run ReaderTables). r .answer) (file-read sheet file t n k records e long)) ∙ same);
-  },
+  first-due sheet (t .tables) (readerFurther t) t (λ n k records. readAgainst n k records file t)
+      (λ n k records e family number place same.
+      past-tables (orElse (fileFault n (length (arcs records)) file) (treeFault (graphOf n k records) file)) file family number place same),
 )
 
 -- a run with the defined outcome has it, and points 2 and 1 of it

@@ -4,7 +4,6 @@
 -- Assumes nothing.
 use Prim.Native.Nat.{ℕ, _<_}
 use mathlib.Core.Path.{_≡_, refl, sym, ap, _∙_, subst}
-use mathlib.Core.Bool.{Bool, true, false}
 use mathlib.Core.Option.{Option, none, some}
 use mathlib.Core.List.{List}
 use native.Mathlib.Omega.{arith}
@@ -16,7 +15,7 @@ use Rattle.lists.specs.Listed.{listed, listed-every, every-listed}
 use Rattle.lists.specs.Numbers.{length-values, value-in}
 use Rattle.lists.specs.Tests.{true-fact, fact-true}
 use Rattle.subset.specs.Sets.{full}
-use Rattle.answer.specs.Stated.{Stated, plan}
+use Rattle.answer.specs.Stated.{plan}
 use Rattle.answer.specs.OneToOne.{refusal-no-plan}
 use Rattle.answer.specs.declared.Refusal.the-variants.{Sheet, Tables, PlanFile}
 use Rattle.answer.specs.declared.TableFault.the-variants.{ShortTables}
@@ -25,18 +24,20 @@ use Rattle.graph.specs.Graph.{Graph}
 use Rattle.graph.specs.Subtrees.{Subtree, total, isTree, isCovering}
 use Rattle.graph.specs.Theorems.{tree-test, covers-test, covers-all}
 use Rattle.sheet.specs.Arcs.{arcs}
-use Rattle.sheet.specs.Fields.{Bytes}
-use Rattle.sheet.specs.Verdict.{Verdict, good, bad, verdict}
+use Rattle.number_fields.specs.Fields.{Bytes}
+use Rattle.sheet.specs.Verdict.{good, verdict}
 use Rattle.sheet.specs.declared.record.Record.{Record}
+use Rattle.opener.specs.Opening.{SheetOpening}
+use Rattle.opener.specs.Cases.{by-opening-cases}
 use Rattle.network.specs.Network.{graphOf}
 use Rattle.planfile.specs.Format.{rootIn, totalIn, countIn, listedArc, arcsIn}
 use Rattle.planfile.specs.Encoded.{WellFormed, FieldsAre, fields-encoding, encoding-fields}
-use Rattle.mission.specs.Runs.{ReaderTables, ReaderLong, Run}
+use Rattle.mission.specs.Runs.{ReaderTables, readerFurther, ReaderLong, Run}
 use Rattle.mission.specs.PointTwo.{EncodesPlan, ReaderPointTwo}
-use Rattle.plan_reader.specs.Reader.{fileFault, orElse, planFault, treeFault, answered, answerTo, allLong, readingOf}
+use Rattle.plan_reader.specs.Reader.{fileFault, orElse, planFault, treeFault, answered, answerTo, readingOf}
 use Rattle.plan_reader.specs.Faults.{some-fault, FileOk, file-passes, file-passed, listed-on, failed-none, none-failed}
 use Rattle.plan_reader.specs.Returned.{FieldsOf}
-use Rattle.plan_reader.specs.Rules.{test-long, sheet-refused, test-failed, file-read}
+use Rattle.plan_reader.specs.Rules.{given, file-read}
 
 -- ---- the answer
 
@@ -58,10 +59,11 @@ module _ (G : Graph) (file : List ℕ) where
   well-formed : FileOk (G .nodes) (G .arcs) file → WellFormed file
   well-formed ok = record { size = ok .head .size; head-mark = ok .head .mark; marks = λ i l. ok .arcs i l .mark }
 
-  -- an accepted file encodes a plan
-  accepted-encodes : Bytes file → (root cost count : ℕ) → answerTo G file ≡ plan root cost count → EncodesPlan G file root cost count
+  -- an accepted file encodes a plan, where its root may be a root
+  accepted-encodes : Bytes file → T (G .mayRoot (rootIn file)) → (root cost count : ℕ) → answerTo G file ≡ plan root cost count
+      → EncodesPlan G file root cost count
   unfolding treeFault
-  accepted-encodes bytes root cost count e =
+  accepted-encodes bytes may root cost count e =
       let a = accepted (orElse (fileFault (G .nodes) (G .arcs) file) (treeFault G file)) file root cost count e in
       let (by-itself, against) = neither (fileFault (G .nodes) (G .arcs) file) (treeFault G file) (a .no-fault) in
       let ok : FileOk (G .nodes) (G .arcs) file = file-passed (G .nodes) (G .arcs) file by-itself in
@@ -77,6 +79,7 @@ module _ (G : Graph) (file : List ℕ) where
         listed = L;
         is-plan =
             record {
+              may-root = may;
               subtree = from-tree (true-fact tree);
               covers = all (covers (true-fact held));
               true-total = eqb-true _ _ sum;
@@ -128,7 +131,7 @@ pub point-two : ReaderPointTwo readingOf
 point-two sheet file bytes t n k records e long root cost count =
     let G : Graph = graphOf n k records in
     let same = ap (λ (r : Run ReaderTables). r .answer) (file-read sheet file t n k records e long) in (
-      (λ q. accepted-encodes G file bytes root cost count (sym same ∙ q)),
+      (λ q. accepted-encodes G file bytes tt root cost count (sym same ∙ q)),
       (λ p. same ∙ encodes-accepted G file root cost count p),
     )
 
@@ -139,20 +142,13 @@ pub record Accepting (sheet : List ℕ) (t : ReaderTables) : Type 0 where
   pub k : ℕ
   pub records : List Record
   pub good-sheet : verdict sheet ≡ good n k records
-  pub long : ReaderLong n (length (arcs records)) t
+  pub long : ReaderLong n k (length (arcs records)) t
 
 pub accepted-good : (sheet file : List ℕ) (t : ReaderTables) (root cost count : ℕ) → readingOf sheet file t .answer ≡ plan root cost count → Accepting sheet t
-accepted-good sheet file t root cost count e = go (verdict sheet) refl
-  where
-    answered-so : {answer : Stated} → readingOf sheet file t .answer ≡ answer → answer ≡ plan root cost count
-    answered-so q = sym q ∙ e
-
-    go : (v : Verdict) → verdict sheet ≡ v → Accepting sheet t
-    go (bad f) q = absurd (refusal-no-plan (Sheet f) root cost count (answered-so (ap (λ (r : Run ReaderTables). r .answer) (sheet-refused sheet file t f q))))
-    go (good n k records) q = tested (allLong n (length (arcs records)) t) refl
-      where
-        tested : (b : Bool) → allLong n (length (arcs records)) t ≡ b → Accepting sheet t
-        tested true h = record { n = n; k = k; records = records; good-sheet = q; long = test-long n (length (arcs records)) t h }
-        tested false h =
-            absurd (refusal-no-plan (Tables ShortTables) root cost count
-            (answered-so (ap (λ (r : Run ReaderTables). r .answer) (test-failed sheet file t n k records q h))))
+accepted-good sheet file t root cost count =
+    by-opening-cases sheet (t .tables) (readerFurther t) (λ (o : SheetOpening). given sheet file t o .answer ≡ plan root cost count → Accepting sheet t)
+    (record {
+      spoilt = λ fault e q. absurd (refusal-no-plan (Sheet fault) root cost count q);
+      short = λ n k records e short q. absurd (refusal-no-plan (Tables ShortTables) root cost count q);
+      long = λ n k records e long q. record { n = n; k = k; records = records; good-sheet = e; long = long };
+    })

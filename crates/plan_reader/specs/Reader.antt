@@ -3,31 +3,30 @@
 -- leg's mark (15) and number (16), then 17, 18, 19."
 -- Assumes nothing.
 use Prim.Native.Nat.{ℕ}
-use mathlib.Core.Bool.{Bool, true, false, cond, not, _&&_}
+use mathlib.Core.Bool.{Bool, true, false, cond, not}
 use mathlib.Core.Option.{Option, none, some}
 use mathlib.Core.List.{List, map}
 use lib.ListN.{length}
 use lib.Dec.{ltb, leb, eqb}
 use Rattle.limits.specs.Marks.{markPN, markLG}
-use Rattle.limits.specs.Refusals.{shortTables}
 use Rattle.lists.specs.Count.{bit}
 use Rattle.lists.specs.Find.{first}
 use Rattle.lists.specs.Numbers.{numbers}
 use Rattle.lists.specs.Over.{over}
-use Rattle.answer.specs.Stated.{Stated, plan, refused, ofTables, statedSheet, statedPlanFile}
+use Rattle.answer.specs.Stated.{Stated, plan, statedPlanFile}
 use Rattle.answer.specs.declared.PlanFault.{PlanFault}
 use Rattle.answer.specs.declared.PlanFault.the-variants.{CutPlan, BadPlan, UnknownNumber, NoTree, StationMissed, FalseTotal}
 use Rattle.subset.specs.Sets.{full}
-use Rattle.sheet.specs.Fields.{number16}
-use Rattle.sheet.specs.Verdict.{verdict}
+use Rattle.number_fields.specs.Fields.{number16}
 use Rattle.sheet.specs.declared.record.Record.{Record}
-use Rattle.loader.specs.Tables.{areLong, loaded, byVerdict}
+use Rattle.loader.specs.Loaded.{loaded}
+use Rattle.opener.specs.Opening.{sheetOpening}
 use Rattle.graph.specs.Graph.{Graph}
 use Rattle.graph.specs.Paths.{isReached}
 use Rattle.graph.specs.Subtrees.{total, isTree, isCovering}
 use Rattle.network.specs.Network.{graphOf}
 use Rattle.planfile.specs.Format.{fileSize, rootIn, totalIn, countIn, markAt, listedArc, arcsIn}
-use Rattle.mission.specs.Runs.{ReaderTables, readerTables, Run, run}
+use Rattle.mission.specs.Runs.{ReaderTables, readerTables, readerFurther, Run, run, runOpened}
 
 -- ---- the file by itself, for a sheet with n sites and m legs: 14, 15, 16
 
@@ -123,17 +122,8 @@ readAgainst n k records file t =
     run (answerTo (graphOf n k records) file)
     (readerTables (loaded n records (t .tables)) (marksAfter (graphOf n k records) file (t .marks)))
 
--- the needed tables are long enough for n sites and m legs, as a test: `ReaderLong` of crate mission
-abbrev pub allLong : ℕ → ℕ → ReaderTables → Bool
-allLong n m t = areLong n m (t .tables) && leb n (length (t .marks))
-
--- by the verdict: the sheet's refusal; 11, where the lengths fail this test; or the file is read against the sheet. "1 to 11 touch nothing".
--- Rules.antt has the cases, one law each.
+-- by the opening of the sheet: a refusal, 1 to 11, which touches nothing; or the file is read against the sheet. Rules.antt has the cases, one law
+-- each.
 abbrev pub readingOf : (sheet file : List ℕ) → ReaderTables → Run ReaderTables
 readingOf sheet file t =
-    byVerdict
-    (λ fault. run (statedSheet fault) t)
-    (run (refused ofTables shortTables 0) t)
-    (λ n k m. allLong n m t)
-    (λ n k records. readAgainst n k records file t)
-    (verdict sheet)
+    runOpened t (λ n k records. readAgainst n k records file t) (sheetOpening sheet (t .tables) (readerFurther t))

@@ -8,7 +8,8 @@ use mathlib.Core.List.{List, [], _∷_}
 use Rattle.answer.specs.Stated.{plan, refused, ofSheet, ofTables, ofPlanFile}
 use Rattle.sheet.specs.Verdict.{verdict, readFor}
 use Rattle.sheet.specs.Worked.{sheetA, sheetD, sheetF}
-use Rattle.loader.specs.Tables.{tables, loaded}
+use Rattle.lent_tables.specs.SheetTables.{sheetTables}
+use Rattle.loader.specs.Loaded.{loaded}
 use Rattle.planfile.specs.Format.{encoding}
 use Rattle.mission.specs.Runs.{ReaderTables, readerTables, run}
 use Rattle.plan_reader.specs.Reader.{fileFault, treeFault, readingOf}
@@ -156,25 +157,25 @@ dearer =
 -- the tables as they are lent: room for six legs and five sites
 abbrev pub lent : ReaderTables
 lent =
-    readerTables (tables (7 ∷ 7 ∷ 7 ∷ 7 ∷ 7 ∷ 7 ∷ []) (7 ∷ 7 ∷ 7 ∷ 7 ∷ 7 ∷ 7 ∷ []) (7 ∷ 7 ∷ 7 ∷ 7 ∷ 7 ∷ 7 ∷ []) (7 ∷ 7 ∷ 7 ∷ 7 ∷ 7 ∷ []))
+    readerTables (sheetTables (7 ∷ 7 ∷ 7 ∷ 7 ∷ 7 ∷ 7 ∷ []) (7 ∷ 7 ∷ 7 ∷ 7 ∷ 7 ∷ 7 ∷ []) (7 ∷ 7 ∷ 7 ∷ 7 ∷ 7 ∷ 7 ∷ []) (7 ∷ 7 ∷ 7 ∷ 7 ∷ 7 ∷ []))
     (9 ∷ 9 ∷ 9 ∷ 9 ∷ 9 ∷ [])
 
 -- the same, with one landing set too few
 abbrev pub lentShort : ReaderTables
 lentShort =
-    readerTables (tables (7 ∷ 7 ∷ 7 ∷ 7 ∷ 7 ∷ 7 ∷ []) (7 ∷ 7 ∷ 7 ∷ 7 ∷ 7 ∷ 7 ∷ []) (7 ∷ 7 ∷ 7 ∷ 7 ∷ 7 ∷ 7 ∷ []) (7 ∷ 7 ∷ 7 ∷ []))
+    readerTables (sheetTables (7 ∷ 7 ∷ 7 ∷ 7 ∷ 7 ∷ 7 ∷ []) (7 ∷ 7 ∷ 7 ∷ 7 ∷ 7 ∷ 7 ∷ []) (7 ∷ 7 ∷ 7 ∷ 7 ∷ 7 ∷ 7 ∷ []) (7 ∷ 7 ∷ 7 ∷ []))
     (9 ∷ 9 ∷ 9 ∷ 9 ∷ 9 ∷ [])
 
 -- the tables after sheet D: its two legs, the stations of its two sites, and these marks
 abbrev pub filledWithD : List ℕ → ReaderTables
 filledWithD marks =
-    readerTables (tables (0 ∷ 1 ∷ 7 ∷ 7 ∷ 7 ∷ 7 ∷ []) (1 ∷ 0 ∷ 7 ∷ 7 ∷ 7 ∷ 7 ∷ []) (7 ∷ 7 ∷ 7 ∷ 7 ∷ 7 ∷ 7 ∷ []) (1 ∷ 2 ∷ 7 ∷ 7 ∷ 7 ∷ []))
+    readerTables (sheetTables (0 ∷ 1 ∷ 7 ∷ 7 ∷ 7 ∷ 7 ∷ []) (1 ∷ 0 ∷ 7 ∷ 7 ∷ 7 ∷ 7 ∷ []) (7 ∷ 7 ∷ 7 ∷ 7 ∷ 7 ∷ 7 ∷ []) (1 ∷ 2 ∷ 7 ∷ 7 ∷ 7 ∷ []))
     marks
 
 -- the tables afterwards: A's five legs, the stations of its four sites, and these marks
 abbrev pub filledWith : List ℕ → ReaderTables
 filledWith marks =
-    readerTables (tables (0 ∷ 1 ∷ 1 ∷ 0 ∷ 0 ∷ 7 ∷ []) (1 ∷ 2 ∷ 3 ∷ 2 ∷ 3 ∷ 7 ∷ []) (4 ∷ 3 ∷ 3 ∷ 5 ∷ 6 ∷ 7 ∷ []) (4 ∷ 0 ∷ 1 ∷ 2 ∷ 7 ∷ []))
+    readerTables (sheetTables (0 ∷ 1 ∷ 1 ∷ 0 ∷ 0 ∷ 7 ∷ []) (1 ∷ 2 ∷ 3 ∷ 2 ∷ 3 ∷ 7 ∷ []) (4 ∷ 3 ∷ 3 ∷ 5 ∷ 6 ∷ 7 ∷ []) (4 ∷ 0 ∷ 1 ∷ 2 ∷ 7 ∷ []))
     marks
 
 -- which files are accepted, and which are refused as what

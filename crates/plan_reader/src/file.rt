@@ -1,5 +1,6 @@
 // The tests of a plan file by itself, for a sheet with n sites and so many legs: refusals 14, 15 and 16.
 use answer::PlanFault;
+use number_fields::u16_at;
 use planfile::fields::HEAD_SIZE;
 use planfile::fields::arc_at;
 use planfile::fields::count_in;
@@ -7,7 +8,6 @@ use planfile::fields::file_size;
 use planfile::fields::mark_at;
 use planfile::fields::root_in;
 use planfile::fields::total_in;
-use sheet::fields::u16_at;
 ghost use mathlib.Core.Path.{_≡_};
 ghost use Prim.Native.Nat.{_+_, _≤_, _<_};
 ghost use lib.ListN.{length};

@@ -9,47 +9,36 @@ use Rattle.engine.proofs.best.write_best.Reads as reads
 use Rattle.engine.proofs.best.write_best.Lts as lts
 use Rattle.planfile.proofs.write.write_plan.Reads as write-plan-reads
 
--- src/best.rt:27:9
 write-plan-requires : tie.Need-write-plan-requires
 write-plan-requires c κs = search needs
 
--- src/best.rt:29:23
 enum-known-written : tie.Need-enum-known-written
 enum-known-written c = search needs
 
--- src/best.rt:32:19
 cast-t11 : tie.Need-cast-t11
 cast-t11 c = search needs
 
--- src/best.rt:34:65
 enum-told : tie.Need-enum-told
 enum-told c = search needs
 
--- src/best.rt:35:60
 enum-told-2 : tie.Need-enum-told-2
 enum-told-2 c = search needs
 
--- src/best.rt:23:1
 same-length : tie.Need-same-length
 same-length c = search needs
 
--- src/best.rt:23:1
 returns : tie.Need-returns
 returns c = sent-file _ _ _ _ (c .before .before .before .before .before .before .before .before .before .pre) _ _ (c .before .before .before .before .before .write-plan .ensures) _ (c .before .written .given .1)
 
--- src/best.rt:23:1
 same-length-2 : tie.Need-same-length-2
 same-length-2 c = search needs
 
--- src/best.rt:23:1
 returns-2 : tie.Need-returns-2
 returns-2 c = sent-short _ _ _ _ (c .before .before .before .before .before .before .before .before .pre) _ _ (c .before .before .before .before .write-plan .ensures) (c .enum-told .given .1)
 
--- src/best.rt:23:1
 same-length-3 : tie.Need-same-length-3
 same-length-3 c = search needs
 
--- src/best.rt:23:1
 returns-3 : tie.Need-returns-3
 returns-3 c = absurd (never-none _ _ _ _ (c .before .before .before .before .before .before .before .before .pre) _ _ (c .before .before .before .before .write-plan .ensures) (c .enum-told2 .given .1))
 

@@ -1,133 +1,117 @@
--- `engine::planning::plan_sheet` meets its contract. The sheet is judged, the lengths are tested, the tables are loaded, and the plan is made over
--- them.
+-- `engine::planning::plan_sheet` meets its contract. The sheet is opened, and the plan is made over the tables that hold it.
 -- Assumes nothing.
-use borrow.Author.Needs.{needs}
-use mathlib.Core.Path.{sym, _∙_}
 use native.Mathlib.Omega.{arith}
+use lib.ListN.{length}
 use denote.Ref.{now}
-use borrow.Author.Needs.{needs}
-use Rattle.sheet.specs.FieldLaws.{known-bytes}
-use Rattle.loader.specs.Tables.{tables}
+use Rattle.number_fields.specs.FieldLaws.{known-bytes}
+use Rattle.lent_tables.specs.SheetTables.{sheetTables}
+use Rattle.lent_tables.specs.Lengths.{cellsAndMarks}
+use Rattle.opener.specs.Opened.{opened-sheet, opened-refusal}
+use Rattle.network.specs.HeldSheet.{opened-held}
 use Rattle.mission.specs.Runs.{engineTables}
+use Rattle.engine.specs.Whole.{refusal-sent, whole-sent}
 use Rattle.engine.specs.PointThree.{cites-points}
-use Rattle.engine.specs.Whole.{sheet-sent, few-terminals, short-sent, loadable, held-loaded, whole-sent}
+use borrow.Author.Needs.{needs}
 use Rattle.engine.proofs.planning.plan_sheet.Statement.{statement}
 use Rattle.engine.proofs.planning.plan_sheet.Tie as tie
-use Rattle.engine.proofs.planning.plan_sheet.Reads as reads
-use Rattle.engine.proofs.planning.plan_sheet.Lts as lts
-use Rattle.engine.proofs.planning.all_long_enough.Reads as all-long-enough-reads
-use Rattle.engine.proofs.planning.plan_loaded.Reads as plan-loaded-reads
-use Rattle.loader.proofs.load.Reads as load-reads
-use Rattle.sheet.proofs.judge.judge.Reads as judge-reads
 
--- src/planning.rt:115:9
-judge-requires : tie.Need-judge-requires
-judge-requires c κs = search needs
+of-cells-and-marks-requires : tie.Need-of-cells-and-marks-requires
+of-cells-and-marks-requires c κs = search needs
 
--- src/planning.rt:117:23
-enum-known-judged : tie.Need-enum-known-judged
-enum-known-judged c = search needs
+open-sheet-requires : tie.Need-open-sheet-requires
+open-sheet-requires c κs = search needs
 
--- src/planning.rt:118:24
-enum-known-judged-2 : tie.Need-enum-known-judged-2
-enum-known-judged-2 c = search needs
+enum-known-opened : tie.Need-enum-known-opened
+enum-known-opened c = search needs
 
--- src/planning.rt:119:16
-all-long-enough-requires : tie.Need-all-long-enough-requires
-all-long-enough-requires c κs =
-    let a = c .before .before .before .before .before .before .before .before .before .before .before .before .args in
-    let bytes = known-bytes (now (a .sheet)) (λ i. omega (arith, c .before .before .before .before .before .before .before .before .before .before .before .shared-slice-known .given i)) in
-    let t = tables (now (a .starts)) (now (a .ends)) (now (a .weights)) (now (a .landings)) in
-    few-terminals (now (a .sheet)) bytes t (now (a .cells)) (now (a .marks)) (now (a .buffer)) _ _ _ (sym (c .before .judged2 .given .1) ∙ c .before .before .before .judge .ensures)
+enum-known-opened-2 : tie.Need-enum-known-opened-2
+enum-known-opened-2 c = search needs
 
--- src/planning.rt:130:17
-load-requires : tie.Need-load-requires
-load-requires c κs =
-    let a = c .before .before .before .before .before .before .before .before .before .before .before .before .before .before .before .before .before .before .args in
-    let bytes = known-bytes (now (a .sheet)) (λ i. omega (arith, c .before .before .before .before .before .before .before .before .before .before .before .before .before .before .before .before .before .shared-slice-known .given i)) in
-    let t = tables (now (a .starts)) (now (a .ends)) (now (a .weights)) (now (a .landings)) in
-    loadable (now (a .sheet)) bytes t (now (a .cells)) (now (a .marks)) (now (a .buffer)) _ _ _ (sym (c .before .before .before .before .before .before .before .judged2 .given .1) ∙ c .before .before .before .before .before .before .before .before .before .judge .ensures) (sym (c .before .before .before .before .before .all-long-enough .ensures) ∙ c .before .before .before .before .if1 .taken)
-
--- src/planning.rt:131:17
 plan-loaded-requires : tie.Need-plan-loaded-requires
 plan-loaded-requires c κs =
-    let a = c .before .before .before .before .before .before .before .before .before .before .before .before .before .before .before .before .before .before .before .before .before .before .before .before .before .before .before .before .before .before .before .before .before .before .args in
-    let bytes = known-bytes (now (a .sheet)) (λ i. omega (arith, c .before .before .before .before .before .before .before .before .before .before .before .before .before .before .before .before .before .before .before .before .before .before .before .before .before .before .before .before .before .before .before .before .before .shared-slice-known .given i)) in
-    let t = tables (now (a .starts)) (now (a .ends)) (now (a .weights)) (now (a .landings)) in
-    held-loaded (now (a .sheet)) bytes t (now (a .cells)) (now (a .marks)) (now (a .buffer)) _ _ _ (sym (c .before .before .before .before .before .before .before .before .before .before .before .before .before .before .before .before .before .before .before .before .before .before .before .judged2 .given .1) ∙ c .before .before .before .before .before .before .before .before .before .before .before .before .before .before .before .before .before .before .before .before .before .before .before .before .before .judge .ensures) (sym (c .before .before .before .before .before .before .before .before .before .before .before .before .before .before .before .before .before .before .before .before .before .all-long-enough .ensures) ∙ c .before .before .before .before .before .before .before .before .before .before .before .before .before .before .before .before .before .before .before .before .if1 .taken) _ (c .before .before .before .before .before .before .before .before .before .before .before .before .before .before .before .load .ensures)
+    let matched = c .before .before .before .before .before .before .before .before in
+    let opened = matched .before .before .before .before .before .before .before .before .before .before in
+    let a = opened .before .before .before .before .before .before .before .before .before .before .before .before .before .before .args in
+    let t = sheetTables (now (a .starts)) (now (a .ends)) (now (a .weights)) (now (a .landings)) in
+    let f = cellsAndMarks (length (now (a .cells))) (length (now (a .marks))) in
+    let bytes = known-bytes (now (a .sheet)) (λ i. omega (arith, opened .before .before .before .before .before .before .before .before .before .before .before .before .before .shared-slice-known .given i)) in
+    opened-held (now (a .sheet)) bytes t _ f _ _ _ (opened-sheet (now (a .sheet)) t _ f _ _ (opened .before .before .before .before .before .of-cells-and-marks .ensures) (opened .open-sheet .ensures) _ _ _ (matched .opened2 .given .1))
 
--- src/planning.rt:131:17
 same-length : tie.Need-same-length
 same-length c = search needs
 
--- src/planning.rt:131:17
 same-length-2 : tie.Need-same-length-2
 same-length-2 c = search needs
 
--- src/planning.rt:131:17
 same-length-3 : tie.Need-same-length-3
 same-length-3 c = search needs
 
--- src/planning.rt:131:17
 same-length-4 : tie.Need-same-length-4
 same-length-4 c = search needs
 
--- src/planning.rt:131:17
+returns : tie.Need-returns
+returns c =
+    let opened = c .before .before .before .before .before .before .before .before .before .before .before in
+    let a = opened .before .before .before .before .before .before .before .before .before .before .before .before .before .before .args in
+    let t = sheetTables (now (a .starts)) (now (a .ends)) (now (a .weights)) (now (a .landings)) in
+    let f = cellsAndMarks (length (now (a .cells))) (length (now (a .marks))) in
+    let bytes = known-bytes (now (a .sheet)) (λ i. omega (arith, opened .before .before .before .before .before .before .before .before .before .before .before .before .before .shared-slice-known .given i)) in
+    let lent = engineTables t (now (a .cells)) (now (a .marks)) (now (a .buffer)) in
+    cites-points (now (a .sheet)) bytes lent _ _ (refusal-sent (now (a .sheet)) lent (opened-refusal (now (a .sheet)) t _ f _ _ (opened .before .before .before .before .before .of-cells-and-marks .ensures) (opened .open-sheet .ensures) _ (c .before .opened .given .1)))
+
 same-length-5 : tie.Need-same-length-5
 same-length-5 c = search needs
 
--- src/planning.rt:131:17
 same-length-6 : tie.Need-same-length-6
 same-length-6 c = search needs
 
--- src/planning.rt:131:17
 same-length-7 : tie.Need-same-length-7
 same-length-7 c = search needs
 
--- src/planning.rt:131:17
-returns : tie.Need-returns
-returns c =
-    let a = c .before .before .before .before .before .before .before .before .before .before .before .before .before .before .before .before .before .before .before .before .before .before .before .before .before .before .before .before .before .before .before .before .before .before .before .before .before .before .before .before .before .args in
-    let bytes = known-bytes (now (a .sheet)) (λ i. omega (arith, c .before .before .before .before .before .before .before .before .before .before .before .before .before .before .before .before .before .before .before .before .before .before .before .before .before .before .before .before .before .before .before .before .before .before .before .before .before .before .before .before .shared-slice-known .given i)) in
-    let t = tables (now (a .starts)) (now (a .ends)) (now (a .weights)) (now (a .landings)) in
-    cites-points (now (a .sheet)) bytes (engineTables t (now (a .cells)) (now (a .marks)) (now (a .buffer))) _ _
-    (whole-sent (now (a .sheet)) bytes t (now (a .cells)) (now (a .marks)) (now (a .buffer)) _ _ _ (sym (c .before .before .before .before .before .before .before .before .before .before .before .before .before .before .before .before .before .before .before .before .before .before .before .before .before .before .before .before .before .before .judged2 .given .1) ∙ c .before .before .before .before .before .before .before .before .before .before .before .before .before .before .before .before .before .before .before .before .before .before .before .before .before .before .before .before .before .before .before .before .judge .ensures) (sym (c .before .before .before .before .before .before .before .before .before .before .before .before .before .before .before .before .before .before .before .before .before .before .before .before .before .before .before .before .all-long-enough .ensures) ∙ c .before .before .before .before .before .before .before .before .before .before .before .before .before .before .before .before .before .before .before .before .before .before .before .before .before .before .before .if1 .taken) _ (c .before .before .before .before .before .before .before .before .before .before .before .before .before .before .before .before .before .before .before .before .before .before .load .ensures) _ _ _ _ (c .before .before .before .before .before .before .plan-loaded .ensures .0) (c .before .before .before .before .before .before .plan-loaded .ensures .1 .0) (c .before .before .before .before .before .before .plan-loaded .ensures .1 .1))
+same-length-8 : tie.Need-same-length-8
+same-length-8 c = search needs
 
--- src/planning.rt:82:1
+same-length-9 : tie.Need-same-length-9
+same-length-9 c = search needs
+
+same-length-10 : tie.Need-same-length-10
+same-length-10 c = search needs
+
+same-length-11 : tie.Need-same-length-11
+same-length-11 c = search needs
+
 returns-2 : tie.Need-returns-2
 returns-2 c =
-    let a = c .before .before .before .before .before .before .before .before .before .before .before .before .args in
-    let bytes = known-bytes (now (a .sheet)) (λ i. omega (arith, c .before .before .before .before .before .before .before .before .before .before .before .shared-slice-known .given i)) in
-    let t = tables (now (a .starts)) (now (a .ends)) (now (a .weights)) (now (a .landings)) in
-    cites-points (now (a .sheet)) bytes (engineTables t (now (a .cells)) (now (a .marks)) (now (a .buffer))) _ _
-    (sheet-sent (now (a .sheet)) bytes t (now (a .cells)) (now (a .marks)) (now (a .buffer)) _ (sym (c .before .judged .given .1) ∙ c .before .before .before .judge .ensures))
-
--- src/planning.rt:82:1
-returns-3 : tie.Need-returns-3
-returns-3 c =
-    let a = c .before .before .before .before .before .before .before .before .before .before .before .before .before .before .args in
-    let bytes = known-bytes (now (a .sheet)) (λ i. omega (arith, c .before .before .before .before .before .before .before .before .before .before .before .before .before .shared-slice-known .given i)) in
-    let t = tables (now (a .starts)) (now (a .ends)) (now (a .weights)) (now (a .landings)) in
-    cites-points (now (a .sheet)) bytes (engineTables t (now (a .cells)) (now (a .marks)) (now (a .buffer))) _ _
-    (short-sent (now (a .sheet)) bytes t (now (a .cells)) (now (a .marks)) (now (a .buffer)) _ _ _ (sym (c .before .before .before .judged2 .given .1) ∙ c .before .before .before .before .before .judge .ensures) (sym (c .before .all-long-enough .ensures) ∙ c .if1 .left))
+    let planned = c .before .before .before .before .before .before in
+    let matched = planned .before .before .before .before .before .before .before .before .before in
+    let opened = matched .before .before .before .before .before .before .before .before .before .before in
+    let a = opened .before .before .before .before .before .before .before .before .before .before .before .before .before .before .args in
+    let t = sheetTables (now (a .starts)) (now (a .ends)) (now (a .weights)) (now (a .landings)) in
+    let f = cellsAndMarks (length (now (a .cells))) (length (now (a .marks))) in
+    let bytes = known-bytes (now (a .sheet)) (λ i. omega (arith, opened .before .before .before .before .before .before .before .before .before .before .before .before .before .shared-slice-known .given i)) in
+    let lent = engineTables t (now (a .cells)) (now (a .marks)) (now (a .buffer)) in
+    cites-points (now (a .sheet)) bytes lent _ _
+    (whole-sent (now (a .sheet)) lent bytes (opened-sheet (now (a .sheet)) t _ f _ _ (opened .before .before .before .before .before .of-cells-and-marks .ensures) (opened .open-sheet .ensures) _ _ _ (matched .opened2 .given .1)) _ _ _ _ (planned .plan-loaded .ensures .0) (planned .plan-loaded .ensures .1 .0) (planned .plan-loaded .ensures .1 .1))
 
 pub plan-sheet-spec : {M : Type 1} → statement M
 plan-sheet-spec =
     tie.close
     (tie.spec
-    judge-requires
-    enum-known-judged
-    enum-known-judged-2
-    all-long-enough-requires
-    load-requires
+    of-cells-and-marks-requires
+    open-sheet-requires
+    enum-known-opened
+    enum-known-opened-2
     plan-loaded-requires
     same-length
     same-length-2
     same-length-3
     same-length-4
+    returns
     same-length-5
     same-length-6
     same-length-7
-    returns
-    returns-2
-    returns-3)
+    same-length-8
+    same-length-9
+    same-length-10
+    same-length-11
+    returns-2)

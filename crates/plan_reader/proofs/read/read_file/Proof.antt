@@ -5,7 +5,7 @@ use native.Mathlib.Omega.{arith}
 use lib.ListN.{length-take}
 use denote.Ref.{now}
 use borrow.Author.Needs.{needs}
-use Rattle.loader.specs.Tables.{tables}
+use Rattle.lent_tables.specs.SheetTables.{sheetTables}
 use Rattle.plan_reader.specs.Against.{fault-read, arcs-ready, arcs-judged}
 use Rattle.plan_reader.proofs.read.read_file.Statement.{statement}
 use Rattle.plan_reader.proofs.read.read_file.Tie as tie
@@ -24,18 +24,18 @@ slice-relend-prefix-read-arcs c = search needs
 
 slice-aggregate-read-arcs : tie.Need-slice-aggregate-read-arcs
 slice-aggregate-read-arcs c =
-    omega (arith, length-take (c .before .before .before .before .before .before .before .before .before .before .before .args .n) (now (c .before .before .before .before .before .before .before .before .before .before .before .args .marks)), c .before .before .before .before .before .before .before .before .before .before .before .pre .long .marks)
+    omega (arith, length-take (c .before .before .before .before .before .before .before .before .before .before .before .args .n) (now (c .before .before .before .before .before .before .before .before .before .before .before .args .marks)), c .before .before .before .before .before .before .before .before .before .before .before .pre .long .further .marks)
 
 read-arcs-requires : tie.Need-read-arcs-requires
 read-arcs-requires c κs =
     let a = c .before .before .before .before .before .before .before .before .before .before .before .args in
-    let t = tables (now (a .starts)) (now (a .ends)) (now (a .weights)) (now (a .landings)) in
+    let t = sheetTables (now (a .starts)) (now (a .ends)) (now (a .weights)) (now (a .landings)) in
     arcs-ready (a .n) (a .k) (a .arcs) t (now (a .marks)) (now (a .file)) (c .before .before .before .before .before .before .before .before .before .before .before .pre) _ _ _ (sym (c .before .before .opened2 .given .1) ∙ c .before .before .before .before .open-file .ensures)
 
 returns : tie.Need-returns
 returns c =
     let a = c .before .before .before .before .before .before .before .before .before .before .args in
-    let t = tables (now (a .starts)) (now (a .ends)) (now (a .weights)) (now (a .landings)) in
+    let t = sheetTables (now (a .starts)) (now (a .ends)) (now (a .weights)) (now (a .landings)) in
     fault-read (a .n) (a .k) (a .arcs) t (now (a .marks)) (now (a .file)) (c .before .before .before .before .before .before .before .before .before .before .pre) _ (sym (c .before .opened .given .1) ∙ c .before .before .before .open-file .ensures)
 
 same-length : tie.Need-same-length
@@ -44,7 +44,7 @@ same-length c = search needs
 returns-2 : tie.Need-returns-2
 returns-2 c =
     let a = c .before .before .before .before .before .before .before .before .before .before .before .before .before .before .args in
-    let t = tables (now (a .starts)) (now (a .ends)) (now (a .weights)) (now (a .landings)) in
+    let t = sheetTables (now (a .starts)) (now (a .ends)) (now (a .weights)) (now (a .landings)) in
     arcs-judged (a .n) (a .k) (a .arcs) t (now (a .marks)) (now (a .file)) (c .before .before .before .before .before .before .before .before .before .before .before .before .before .before .pre) _ _ _ (sym (c .before .before .before .before .before .opened2 .given .1) ∙ c .before .before .before .before .before .before .before .open-file .ensures) _ _ (c .before .before .read-arcs .ensures .0) (c .before .before .read-arcs .ensures .1)
 
 pub read-file-spec : {M : Type 1} → statement M
