@@ -16,6 +16,7 @@ use crate::verdict::verdict_of;
 use answer::Answer;
 use case_text::tables::print_bytes;
 use engine::planning::plan_sheet;
+use limits::Cost;
 use plan_reader::read::read_plan;
 use sheet_text::print;
 ghost use mathlib.Core.Path.{_≡_};
@@ -73,7 +74,7 @@ fn run_engine(sheet: &[u8], file: &mut [u8]) -> Answer {
     let mut ends = [60002u16; 6];
     let mut weights = [4000000003u32; 6];
     let mut landings = [60004u16; 4];
-    let mut cells = [4000000005u32; 32];
+    let mut cells: [Cost; 32] = [4000000005; 32];
     let mut marks = [9u8; 4];
     plan_sheet(
         sheet,
@@ -97,8 +98,8 @@ fn try_found(sheet: &[u8], file: &[u8], found: Verdict, counts: &mut [u64; 32])
         try_file(sheet, file, found, counts);
         return;
     }
-    let length = 10 + 4 * arcs;
-    try_file(sheet, &file[..length], found, counts);
+    let size = 10 + 4 * arcs;
+    try_file(sheet, &file[..size], found, counts);
 }
 
 // The engine's answer is counted: a plan, and whether it is one of several, or the refusal.

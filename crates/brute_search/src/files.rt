@@ -52,21 +52,21 @@ fn try_total(
 {
     let wanted = judge(small, root, total, list);
     let mut file = [0u8; 26];
-    let length = put_file(&mut file, root, total, list);
-    try_file(sheet, &file[..length], wanted, counts);
+    let size = put_file(&mut file, root, total, list);
+    try_file(sheet, &file[..size], wanted, counts);
 }
 
 // A file that lacks its last byte is cut, and one with a byte more is a bad plan at that byte.
 fn try_lengths(sheet: &[u8], root: u16, total: u64, list: &[u16], counts: &mut [u64; 32]) {
     let mut file = [0u8; 27];
-    let length = put_file(&mut file, root, total, list);
-    if 0 < length {
-        let cut = length - 1;
+    let size = put_file(&mut file, root, total, list);
+    if 0 < size {
+        let cut = size - 1;
         try_file(sheet, &file[..cut], refused(14, 0), counts);
     }
-    if length < 27 {
-        let longer = length + 1;
-        try_file(sheet, &file[..longer], refused(15, length), counts);
+    if size < 27 {
+        let longer = size + 1;
+        try_file(sheet, &file[..longer], refused(15, size), counts);
     }
 }
 

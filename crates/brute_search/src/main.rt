@@ -25,10 +25,10 @@ const SHEETS: u64 = 6000;
 fn try_sheet(state: u64, counts: &mut [u64; 32]) -> u64 {
     let mut bytes = [0u8; 128];
     let small = make(&mut bytes, state);
-    let length = small.length;
+    let size = small.size;
     add_sheet(counts, small);
-    try_plan(&bytes[..length], small, counts);
-    try_lists(&bytes[..length], small, counts);
+    try_plan(&bytes[..size], small, counts);
+    try_lists(&bytes[..size], small, counts);
     small.state
 }
 

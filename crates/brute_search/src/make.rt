@@ -25,7 +25,7 @@ const MAX_ARCS: u16 = 6;
 
 // A sheet of which nothing is written.
 fn empty(state: u64) -> Small
-    ensures { λ r. ⌜ r .length ≡ 0 ⌝ }
+    ensures { λ r. ⌜ r .size ≡ 0 ⌝ }
 {
     let number = next(state);
     let i = (number % 8) as usize;
@@ -38,7 +38,7 @@ fn empty(state: u64) -> Small
         weights: [0u32; 8],
         landings: [0u16; 4],
         features: 0,
-        length: 0,
+        size: 0,
         state: number,
     }
 }
@@ -105,11 +105,11 @@ fn with_landing(small: Small, t: u16, v: u16) -> Small {
 }
 
 // The sheet with so many bytes.
-fn with_length(small: Small, length: usize) -> Small
-    ensures { λ r. ⌜ r .length ≡ «length» ⌝ }
+fn with_size(small: Small, size: usize) -> Small
+    ensures { λ r. ⌜ r .size ≡ size ⌝ }
 {
     let mut out = small;
-    out.length = length;
+    out.size = size;
     out
 }
 
@@ -147,46 +147,46 @@ fn other_node(number: u64, start: u16, nodes: u16) -> u16
 
 // One leg.
 fn put_arc(bytes: &mut [u8], small: Small, number: u64) -> Small
-    requires { ⌜ (small .length ≤ length (now bytes)) × (1 < small .nodes) ⌝ }
-    ensures { λ r. ⌜ r .length ≤ length (now (bytes .exit)) ⌝ }
+    requires { ⌜ (small .size ≤ length (now bytes)) × (1 < small .nodes) ⌝ }
+    ensures { λ r. ⌜ r .size ≤ length (now (bytes .exit)) ⌝ }
 {
     let start = below(number, small.nodes);
     let end = other_node(number / 8, start, small.nodes);
     let weight = weight_from(number / 64);
-    let next = put_link(bytes, small.length, b"LK", start, end, weight);
-    with_length(with_arc(small, start, end, weight), next)
+    let next = put_link(bytes, small.size, b"LK", start, end, weight);
+    with_size(with_arc(small, start, end, weight), next)
 }
 
 // Two legs, there and back.
 fn put_arcs(bytes: &mut [u8], small: Small, number: u64) -> Small
-    requires { ⌜ (small .length ≤ length (now bytes)) × (1 < small .nodes) ⌝ }
-    ensures { λ r. ⌜ r .length ≤ length (now (bytes .exit)) ⌝ }
+    requires { ⌜ (small .size ≤ length (now bytes)) × (1 < small .nodes) ⌝ }
+    ensures { λ r. ⌜ r .size ≤ length (now (bytes .exit)) ⌝ }
 {
     let start = below(number, small.nodes);
     let end = other_node(number / 8, start, small.nodes);
     let weight = weight_from(number / 64);
-    let next = put_link(bytes, small.length, b"BK", start, end, weight);
+    let next = put_link(bytes, small.size, b"BK", start, end, weight);
     let there = with_arc(with_feature(small, BACK), start, end, weight);
-    with_length(with_arc(there, end, start, weight), next)
+    with_size(with_arc(there, end, start, weight), next)
 }
 
 // A landing of station t.
 fn put_landing(bytes: &mut [u8], small: Small, t: u16, number: u64) -> Small
-    requires { ⌜ small .length ≤ length (now bytes) ⌝ }
-    ensures { λ r. ⌜ r .length ≤ length (now (bytes .exit)) ⌝ }
+    requires { ⌜ small .size ≤ length (now bytes) ⌝ }
+    ensures { λ r. ⌜ r .size ≤ length (now (bytes .exit)) ⌝ }
 {
     let v = below(number, small.nodes);
-    let marked = put(bytes, small.length, b"ST");
+    let marked = put(bytes, small.size, b"ST");
     let station = [(t % 256) as u8];
     let named = put(bytes, marked, &station);
     let next = put_number(bytes, named, v);
-    with_length(with_landing(small, t, v), next)
+    with_size(with_landing(small, t, v), next)
 }
 
 // One record, by the number: half are `LK`, a quarter `BK`, where the sheet has two sites and room for the legs. The others are `ST`.
 fn put_record(bytes: &mut [u8], small: Small, number: u64) -> Small
-    requires { ⌜ small .length ≤ length (now bytes) ⌝ }
-    ensures { λ r. ⌜ r .length ≤ length (now (bytes .exit)) ⌝ }
+    requires { ⌜ small .size ≤ length (now bytes) ⌝ }
+    ensures { λ r. ⌜ r .size ≤ length (now (bytes .exit)) ⌝ }
 {
     let kind = below(number, 8);
     if 1 < small.nodes && kind < 4 && small.arcs < MAX_ARCS {
@@ -201,8 +201,8 @@ fn put_record(bytes: &mut [u8], small: Small, number: u64) -> Small
 
 // The record after those that are written, and the generator one number further.
 fn put_next(bytes: &mut [u8], small: Small) -> Small
-    requires { ⌜ small .length ≤ length (now bytes) ⌝ }
-    ensures { λ r. ⌜ r .length ≤ length (now (bytes .exit)) ⌝ }
+    requires { ⌜ small .size ≤ length (now bytes) ⌝ }
+    ensures { λ r. ⌜ r .size ≤ length (now (bytes .exit)) ⌝ }
 {
     let number = next(small.state);
     let mut out = small;
@@ -212,8 +212,8 @@ fn put_next(bytes: &mut [u8], small: Small) -> Small
 
 // So many records.
 fn put_records(bytes: &mut [u8], small: Small, count: u16) -> Small
-    requires { ⌜ small .length ≤ length (now bytes) ⌝ }
-    ensures { λ r. ⌜ r .length ≤ length (now (bytes .exit)) ⌝ }
+    requires { ⌜ small .size ≤ length (now bytes) ⌝ }
+    ensures { λ r. ⌜ r .size ≤ length (now (bytes .exit)) ⌝ }
 {
     let mut out = small;
     let mut i = 0;
@@ -226,8 +226,8 @@ fn put_records(bytes: &mut [u8], small: Small, count: u16) -> Small
 
 // A landing of station t, where it has none.
 fn put_missing(bytes: &mut [u8], small: Small, t: u16) -> Small
-    requires { ⌜ small .length ≤ length (now bytes) ⌝ }
-    ensures { λ r. ⌜ r .length ≤ length (now (bytes .exit)) ⌝ }
+    requires { ⌜ small .size ≤ length (now bytes) ⌝ }
+    ensures { λ r. ⌜ r .size ≤ length (now (bytes .exit)) ⌝ }
 {
     if landings_of(small, t) != 0 {
         return small;
@@ -240,8 +240,8 @@ fn put_missing(bytes: &mut [u8], small: Small, t: u16) -> Small
 
 // A landing of each station that has none.
 fn put_all_missing(bytes: &mut [u8], small: Small) -> Small
-    requires { ⌜ small .length ≤ length (now bytes) ⌝ }
-    ensures { λ r. ⌜ r .length ≤ length (now (bytes .exit)) ⌝ }
+    requires { ⌜ small .size ≤ length (now bytes) ⌝ }
+    ensures { λ r. ⌜ r .size ≤ length (now (bytes .exit)) ⌝ }
 {
     let count = small.terminals;
     let mut out = small;
@@ -255,20 +255,20 @@ fn put_all_missing(bytes: &mut [u8], small: Small) -> Small
 
 // The `HD` record.
 fn put_head(bytes: &mut [u8], small: Small) -> Small
-    requires { ⌜ small .length ≤ length (now bytes) ⌝ }
-    ensures { λ r. ⌜ r .length ≤ length (now (bytes .exit)) ⌝ }
+    requires { ⌜ small .size ≤ length (now bytes) ⌝ }
+    ensures { λ r. ⌜ r .size ≤ length (now (bytes .exit)) ⌝ }
 {
-    let marked = put(bytes, small.length, b"HD");
+    let marked = put(bytes, small.size, b"HD");
     let sized = put_number(bytes, marked, small.nodes);
     let terminals = [(small.terminals % 256) as u8];
     let next = put(bytes, sized, &terminals);
-    with_length(small, next)
+    with_size(small, next)
 }
 
 // Up to eight records, and the landings that are missing.
 fn put_body(bytes: &mut [u8], small: Small) -> Small
-    requires { ⌜ small .length ≤ length (now bytes) ⌝ }
-    ensures { λ r. ⌜ r .length ≤ length (now (bytes .exit)) ⌝ }
+    requires { ⌜ small .size ≤ length (now bytes) ⌝ }
+    ensures { λ r. ⌜ r .size ≤ length (now (bytes .exit)) ⌝ }
 {
     let count = below(small.state / 64, 9);
     let filled = put_records(bytes, small, count);
@@ -277,10 +277,10 @@ fn put_body(bytes: &mut [u8], small: Small) -> Small
 
 // The sheet that the generator gives from this state on.
 pub fn make(bytes: &mut [u8], state: u64) -> Small
-    ensures { λ r. ⌜ r .length ≤ length (now (bytes .exit)) ⌝ }
+    ensures { λ r. ⌜ r .size ≤ length (now (bytes .exit)) ⌝ }
 {
     let opened = put_head(bytes, empty(state));
     let filled = put_body(bytes, opened);
-    let end = put(bytes, filled.length, b"ED");
-    with_length(filled, end)
+    let end = put(bytes, filled.size, b"ED");
+    with_size(filled, end)
 }

@@ -13,7 +13,7 @@ pub struct Small {
     // What the sheet has, as a set of the numbers below.
     pub features: u16,
     // The number of bytes of the sheet, and the state of the generator.
-    pub length: usize,
+    pub size: usize,
     pub state: u64,
 }
 

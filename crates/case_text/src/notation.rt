@@ -72,10 +72,10 @@ pub fn decode(notation: &[u8], buffer: &mut [u8]) -> Decoded
     ensures { λ r. ⌜ Within r (now (buffer .exit)) ⌝ }
 {
     let mut at = 0;
-    let mut length = 0;
+    let mut count = 0;
     while at < notation.len() {
         let size = size_of(notation[at]);
-        if notation.len() - at < size || buffer.len() <= length {
+        if notation.len() - at < size || buffer.len() <= count {
             return Decoded::Unreadable;
         }
         let end = at + size;
@@ -83,9 +83,9 @@ pub fn decode(notation: &[u8], buffer: &mut [u8]) -> Decoded
         let Sign::Byte(byte) = sign else {
             return Decoded::Unreadable;
         };
-        buffer[length] = byte;
-        length += 1;
+        buffer[count] = byte;
+        count += 1;
         at = end;
     }
-    Decoded::Length(length)
+    Decoded::Length(count)
 }

@@ -22,11 +22,12 @@ use Rattle.answer.specs.declared.Refusal.the-variants.{Sheet}
 use Rattle.answer.specs.declared.SheetFault.{SheetFault}
 use Rattle.answer.specs.declared.SheetFault.the-variants.{ShortSheet, StrangeMark, BadHead, NoSuchSite, NoSuchStation, Loop, BadPrice, TooManyLegs, AfterTheEnd, Unheard}
 use Rattle.sheet.specs.Arcs.{arcs}
-use Rattle.sheet.specs.Fields.{Bytes}
-use Rattle.sheet.specs.Verdict.{good, bad, verdict}
+use Rattle.number_fields.specs.Fields.{Bytes}
+use Rattle.sheet.specs.Verdict.{Verdict, good, bad, verdict}
 use Rattle.sheet.specs.declared.record.Record.{Record}
-use Rattle.loader.specs.Tables.{tables, byVerdict}
-use Rattle.loader.specs.Writing.{SameLengths, loaded-lengths}
+use Rattle.lent_tables.specs.SheetTables.{SameLengths, sheetTables}
+use Rattle.loader.specs.Writing.{loaded-lengths}
+use Rattle.opener.specs.Opening.{SheetOpening, refuses, opens, byVerdict, byOpening}
 use Rattle.loader.specs.Held.{start-held, end-held, weight-held}
 use Rattle.network.specs.Network.{graphOf}
 use Rattle.planfile.specs.Format.{fileBytes, fileSize, listedArc, arcsTo}
@@ -69,20 +70,20 @@ AnsweredBy sheet r =
 -- ---- the text of a sheet, by its verdict
 
 module _ (sheet : List ℕ) where
+  -- by the opening
+  abbrev textOf : SheetOpening → List ℕ
+  textOf = byOpening refusalText (λ n k records. planText (graphOf n k records) (planOf (graphOf n k records)))
+
   text-refused : (fault : SheetFault) → verdict sheet ≡ bad fault → sheetText sheet ≡ refusalText (statedSheet fault)
   unfolding sheetText
-  text-refused fault e =
-      ap (byVerdict (λ f. refusalText (statedSheet f)) (refusalText (refused ofTables shortTables 0)) deskFits
-      (λ n k records. planText (graphOf n k records) (planOf (graphOf n k records)))) e
+  text-refused fault e = ap (λ (v : Verdict). textOf (byVerdict deskFits v)) e
 
   text-good : (n k : ℕ) (records : List Record) → verdict sheet ≡ good n k records → (b : Bool) → deskFits n k (length (arcs records)) ≡ b
-      → sheetText sheet
-      ≡ cond b (planText (graphOf n k records) (planOf (graphOf n k records))) (refusalText (refused ofTables shortTables 0))
+      → sheetText sheet ≡ textOf (cond b (opens n k records) (refuses (refused ofTables shortTables 0)))
   unfolding sheetText
   text-good n k records e b fits =
-      ap (byVerdict (λ f. refusalText (statedSheet f)) (refusalText (refused ofTables shortTables 0)) deskFits
-      (λ n k records. planText (graphOf n k records) (planOf (graphOf n k records)))) e
-      ∙ ap (λ (x : Bool). cond x (planText (graphOf n k records) (planOf (graphOf n k records))) (refusalText (refused ofTables shortTables 0))) fits
+      ap (λ (v : Verdict). textOf (byVerdict deskFits v)) e
+      ∙ ap (λ (x : Bool). textOf (cond x (opens n k records) (refuses (refused ofTables shortTables 0)))) fits
 
 -- a refusal has its text, and lists nothing
 fault-text : (fault : SheetFault) (starts ends weights buffer : List ℕ)
@@ -120,7 +121,7 @@ pub record DeskTables (t : EngineTables) : Type 0 where
 -- the program's tables, all zeros
 abbrev pub zeros : EngineTables
 zeros =
-    engineTables (tables (replicate deskArcs 0) (replicate deskArcs 0) (replicate deskArcs 0) (replicate deskNodes 0))
+    engineTables (sheetTables (replicate deskArcs 0) (replicate deskArcs 0) (replicate deskArcs 0) (replicate deskNodes 0))
     (replicate deskCells 0) (replicate deskNodes 0) (replicate (fileSize deskTree) 0)
 
 pub zeros-desk : DeskTables zeros
@@ -150,8 +151,7 @@ module _ (n k m : ℕ) (t : EngineTables) (d : DeskTables t) where
           weights = omega (arith, d .weights);
           landings = omega (arith, d .landings);
         };
-        cells = omega (arith, d .cells);
-        marks = omega (arith, d .marks);
+        further = record { cells = omega (arith, d .cells); marks = omega (arith, d .marks) };
       }
 
   long-fits : EngineLong n k m t → deskFits n k m ≡ true
@@ -159,7 +159,7 @@ module _ (n k m : ℕ) (t : EngineTables) (d : DeskTables t) where
       λ i.
       le-leb m deskArcs (omega (arith, d .starts, long .tables .starts)) i
       && (le-leb n deskNodes (omega (arith, d .landings, long .tables .landings)) i
-      && le-leb (n * 2 ^ k) deskCells (omega (arith, d .cells, long .cells)) i)
+      && le-leb (n * 2 ^ k) deskCells (omega (arith, d .cells, long .further .cells)) i)
 
   short-fails : (EngineLong n k m t → ⊥) → deskFits n k m ≡ false
   short-fails short = by-test (deskFits n k m) (λ b. deskFits n k m ≡ b → deskFits n k m ≡ false) (λ h _. absurd (short (fits-long h))) (λ h _. h) refl

@@ -7,12 +7,12 @@ use mathlib.Core.Option.{Option, none, some}
 use mathlib.Core.List.{List, [], _++_}
 use lib.Dec.{leb, ltb}
 use lib.ListN.{length}
-use Rattle.limits.specs.Refusals.{shortTables, noPlan}
+use Rattle.limits.specs.Refusals.{noPlan}
 use Rattle.lists.specs.Joined.{joined}
-use Rattle.answer.specs.Stated.{Stated, plan, cell, sender, noSender, refused, ofTables, ofSearch, statedSheet}
+use Rattle.answer.specs.Stated.{Stated, plan, cell, sender, noSender, refused, ofSearch}
 use Rattle.graph.specs.Graph.{Graph}
 use Rattle.sheet.specs.Verdict.{verdict}
-use Rattle.loader.specs.Tables.{byVerdict}
+use Rattle.opener.specs.Opening.{byVerdict, byOpening}
 use Rattle.network.specs.Network.{graphOf}
 use Rattle.engine.specs.Engine.{Plan, planOf}
 use Rattle.desk_lines.specs.Lines.{ascii, refusalLine, firstLine, arcLine}
@@ -63,12 +63,7 @@ deskBytes = 32768
 -- the text of a sheet: its refusal, 11, 12, or the plan
 unfoldable pub sheetText : List ℕ → List ℕ
 sheetText sheet =
-    byVerdict
-    (λ fault. refusalText (statedSheet fault))
-    (refusalText (refused ofTables shortTables 0))
-    deskFits
-    (λ n k records. planText (graphOf n k records) (planOf (graphOf n k records)))
-    (verdict sheet)
+    byOpening refusalText (λ n k records. planText (graphOf n k records) (planOf (graphOf n k records))) (byVerdict deskFits (verdict sheet))
 
 -- no text has more bytes
 abbrev pub textBytes : ℕ

@@ -9,9 +9,9 @@ use libc::STDOUT_FILENO;
 
 pub fn run() {
     let mut input = [0u8; MAX_BYTES + 1];
-    let length = io::read_full(STDIN_FILENO, &mut input);
+    let size = io::read_full(STDIN_FILENO, &mut input);
     let mut text = [0u8; TEXT_BYTES];
-    let end = desk_text(&input[..length], &mut text);
+    let end = desk_text(&input[..size], &mut text);
     if !io::write_all(STDOUT_FILENO, &text[..end]) {
         io::write_all(STDERR_FILENO, b"the text could not be written\n");
     }

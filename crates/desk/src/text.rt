@@ -6,6 +6,7 @@ use desk_lines::lines::put_first;
 use desk_lines::lines::put_refusal;
 use desk_lines::words::put_word;
 use engine::planning::plan_sheet;
+use limits::Cost;
 ghost use mathlib.Core.Path.{_≡_};
 ghost use Prim.Native.Nat.{_≤_};
 ghost use lib.ListN.{length};
@@ -64,7 +65,7 @@ fn put_sheet(text: &mut [u8], sheet: &[u8]) -> usize
     let mut ends = [0u16; ARCS];
     let mut weights = [0u32; ARCS];
     let mut landings = [0u16; NODES];
-    let mut cells = [0u32; CELLS];
+    let mut cells: [Cost; CELLS] = [0; CELLS];
     let mut marks = [0u8; NODES];
     let mut buffer = [0u8; PLAN_BYTES];
     let sent = plan_sheet(
@@ -83,9 +84,8 @@ fn put_sheet(text: &mut [u8], sheet: &[u8]) -> usize
 // The text for an input. As much of it as `text` has room for is written from its first byte on, and no other byte; what is returned is the
 // length of the whole text.
 pub fn desk_text(input: &[u8], text: &mut [u8]) -> usize
-    ensures { λ r. ⌜ r ≡ length (deskText (now (input .entry))) ⌝ }
-    ensures { λ _. ⌜ now (text .exit) ≡ fitOver (deskText (now (input .entry))) (now (text .entry)) ⌝ }
-    ensures { λ r. ⌜ r ≤ textBytes ⌝ }
+    ensures { λ r. ⌜ (let whole = deskText (now (input .entry)) in
+        ((r ≡ length whole) × ((now (text .exit) ≡ fitOver whole (now (text .entry))) × (r ≤ textBytes)))) ⌝ }
 {
     if MAX_BYTES < input.len() {
         return put_word(text, 0, b"too long\n");

@@ -39,8 +39,8 @@ fn put_arcs(sheet: &mut [u8], arcs: usize) -> usize
 // Refusal 8, and refusal 11 of tables for 12 legs.
 fn number_of_arcs(name: &[u8], arcs: usize) {
     let mut sheet = [0u8; 82000];
-    let length = put_arcs(&mut sheet, arcs);
-    show(name, &sheet[..length]);
+    let size = put_arcs(&mut sheet, arcs);
+    show(name, &sheet[..size]);
 }
 
 pub fn run() {

@@ -7,6 +7,7 @@ use case_text::tables::print_entries;
 use case_text::tables::print_marks;
 use case_text::tables::print_weights;
 use engine::planning::plan_sheet;
+use limits::Cost;
 use sheet_text::print_answer;
 ghost use Prim.Native.Nat.{_≤_};
 
@@ -16,7 +17,7 @@ fn print_tables(
     ends: &[u16; 12],
     weights: &[u32; 12],
     landings: &[u16; 8],
-    cells: &[u32; 52],
+    cells: &[Cost; 52],
     marks: &[u8; 8],
 ) {
     print_bytes(b"plan buffer", buffer);
@@ -48,7 +49,7 @@ pub fn show_lent(
     let mut ends = [60002u16; 12];
     let mut weights = [4000000003u32; 12];
     let mut landings = [60004u16; 8];
-    let mut cells = [4000000005u32; 52];
+    let mut cells: [Cost; 52] = [4000000005; 52];
     let mut marks = [9u8; 8];
     let mut buffer = [238u8; 40];
     let answer = plan_sheet(
@@ -78,7 +79,7 @@ pub fn show_wide(name: &[u8], sheet: &[u8], buffer: &mut [u8]) {
     let mut ends = [60002u16; limits::MAX_ARCS as usize];
     let mut weights = [4000000003u32; limits::MAX_ARCS as usize];
     let mut landings = [60004u16; limits::MAX_NODES as usize];
-    let mut cells = [4000000005u32; 16384];
+    let mut cells: [Cost; 16384] = [4000000005; 16384];
     let mut marks = [9u8; limits::MAX_NODES as usize];
     let answer = plan_sheet(
         sheet,

@@ -32,8 +32,8 @@ fn row(name: &[u8], back: bool, buffer: &mut [u8]) {
     let mut sheet = [0u8; 10300];
     let opened = put(&mut sheet, 0, b"HD\x04\x00\x02");
     let linked = put_row(&mut sheet, opened, back);
-    let length = put(&mut sheet, linked, b"ST\x00\x03\xffST\x01\x00\x00ED");
-    show_wide(name, &sheet[..length], buffer);
+    let size = put(&mut sheet, linked, b"ST\x00\x03\xffST\x01\x00\x00ED");
+    show_wide(name, &sheet[..size], buffer);
 }
 
 // The plan file has 4102 bytes.

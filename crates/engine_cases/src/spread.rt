@@ -38,9 +38,9 @@ fn spread(name: &[u8], head: &[u8], n: u32, count: u32, last: &[u8])
     let mut sheet = [0u8; 82200];
     let opened = put(&mut sheet, 0, head);
     let linked = put_spreads(&mut sheet, opened, n, count);
-    let length = put(&mut sheet, linked, last);
+    let size = put(&mut sheet, linked, last);
     let mut buffer = [238u8; 90];
-    show_wide(name, &sheet[..length], &mut buffer);
+    show_wide(name, &sheet[..size], &mut buffer);
 }
 
 // A station at every eighth site of 64, from site 3 on.

@@ -3,14 +3,15 @@
 use crate::every::show_every;
 use crate::show::show_cell;
 use crate::show::show_sender;
+use limits::Cost;
 
 // A table for one site and one station.
-const SMALLEST: [u32; 2] = [0, 7];
+const SMALLEST: [Cost; 2] = [0, 7];
 
 // A table for three sites and two stations, in which all cells differ; and the same with four entries more.
-const CELLS: [u32; 12] = [10, 21, 32, 43, 20, 11, 42, 33, 30, 41, 12, 23];
+const CELLS: [Cost; 12] = [10, 21, 32, 43, 20, 11, 42, 33, 30, 41, 12, 23];
 
-const LONGER: [u32; 16] = [10, 21, 32, 43, 20, 11, 42, 33, 30, 41, 12, 23, 0, 1, 2, 3];
+const LONGER: [Cost; 16] = [10, 21, 32, 43, 20, 11, 42, 33, 30, 41, 12, 23, 0, 1, 2, 3];
 
 fn small_tables() {
     show_every(b"1 site and 1 station", &SMALLEST, 1, 1, 2);
@@ -21,7 +22,7 @@ fn small_tables() {
 }
 
 // 1024 sites and one station.
-fn of_1024_sites(cells: &[u32]) {
+fn of_1024_sites(cells: &[Cost]) {
     show_cell(b"1024 sites", cells, 1024, 1, 0, 0);
     show_cell(b"1024 sites", cells, 1024, 1, 0, 1);
     show_cell(b"1024 sites", cells, 1024, 1, 1023, 0);
@@ -34,14 +35,14 @@ fn of_1024_sites(cells: &[u32]) {
 
 // Each cell is 9, but for the first and the last of the subset 1.
 fn most_sites() {
-    let mut cells = [9u32; 2048];
+    let mut cells: [Cost; 2048] = [9; 2048];
     cells[1] = 8;
     cells[2047] = 5;
     of_1024_sites(&cells);
 }
 
 // Two sites and ten stations, and the first of these sites alone.
-fn of_10_stations(cells: &[u32]) {
+fn of_10_stations(cells: &[Cost]) {
     show_cell(b"10 stations", cells, 2, 10, 0, 0);
     show_cell(b"10 stations", cells, 2, 10, 0, 1023);
     show_cell(b"10 stations", cells, 2, 10, 1, 0);
@@ -56,7 +57,7 @@ fn of_10_stations(cells: &[u32]) {
 
 // Each cell is 9, but for the first and the last of site 0, and the last of site 1.
 fn most_stations() {
-    let mut cells = [9u32; 2048];
+    let mut cells: [Cost; 2048] = [9; 2048];
     cells[0] = 6;
     cells[1023] = 8;
     cells[2047] = 5;
@@ -64,7 +65,7 @@ fn most_stations() {
 }
 
 // 1024 cells, just enough for one site and ten stations.
-fn of_1_site(cells: &[u32]) {
+fn of_1_site(cells: &[Cost]) {
     show_cell(b"1 site", cells, 1, 10, 0, 1022);
     show_cell(b"1 site", cells, 1, 10, 0, 1023);
     show_sender(b"1 site", cells, 1, 10, 1023);
@@ -72,7 +73,7 @@ fn of_1_site(cells: &[u32]) {
 
 // Each cell is 9, but for the last.
 fn one_site() {
-    let mut cells = [9u32; 1024];
+    let mut cells: [Cost; 1024] = [9; 1024];
     cells[1023] = 8;
     of_1_site(&cells);
 }

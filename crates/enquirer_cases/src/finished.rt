@@ -3,6 +3,7 @@
 use crate::every::show_every;
 use case_text::names::print_name;
 use engine::planning::plan_sheet;
+use limits::Cost;
 use sheet_text::print_answer;
 
 const A: [u8; 72] =
@@ -26,7 +27,7 @@ fn show_sheet(name: &[u8], sheet: &[u8], n: u32, k: u32, subsets: u32, buffer: &
     let mut ends = [0u16; 5];
     let mut weights = [0u32; 5];
     let mut landings = [0u16; 4];
-    let mut cells = [1u32; 40];
+    let mut cells: [Cost; 40] = [1; 40];
     let mut marks = [0u8; 4];
     let answer = plan_sheet(
         sheet,

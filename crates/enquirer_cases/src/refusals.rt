@@ -2,21 +2,22 @@
 // The place is always 0. Of some numbers the lowest 8 or 16 bits alone would be a number that is taken.
 use crate::show::show_cell;
 use crate::show::show_sender;
+use limits::Cost;
 
 // A table for three sites and two stations, in which all cells differ.
-const CELLS: [u32; 12] = [10, 11, 12, 13, 20, 21, 22, 23, 30, 31, 32, 33];
+const CELLS: [Cost; 12] = [10, 11, 12, 13, 20, 21, 22, 23, 30, 31, 32, 33];
 
 // That table without its last cell, for one site fewer, and for one station fewer.
-const ONE_FEWER: [u32; 11] = [10, 11, 12, 13, 20, 21, 22, 23, 30, 31, 32];
+const ONE_FEWER: [Cost; 11] = [10, 11, 12, 13, 20, 21, 22, 23, 30, 31, 32];
 
-const TWO_SITES: [u32; 8] = [10, 11, 12, 13, 20, 21, 22, 23];
+const TWO_SITES: [Cost; 8] = [10, 11, 12, 13, 20, 21, 22, 23];
 
-const ONE_STATION: [u32; 6] = [10, 11, 20, 21, 30, 31];
+const ONE_STATION: [Cost; 6] = [10, 11, 20, 21, 30, 31];
 
-const NO_CELLS: [u32; 0] = [];
+const NO_CELLS: [Cost; 0] = [];
 
 // The first cell and the best sender of the empty subset, of any table.
-fn both_of(name: &[u8], cells: &[u32], n: u32, k: u32) {
+fn both_of(name: &[u8], cells: &[Cost], n: u32, k: u32) {
     show_cell(name, cells, n, k, 0, 0);
     show_sender(name, cells, n, k, 0);
 }
@@ -40,7 +41,7 @@ fn out_of_range() {
 
 // Refusal 3 for one site or one station too many, though the table is long enough; and refusal 11 for the most sites and stations.
 fn just_out_of_range() {
-    let cells = [7u32; 2050];
+    let cells: [Cost; 2050] = [7; 2050];
     both_of(b"1025 sites", &cells, 1025, 1);
     both_of(b"11 stations", &cells, 1, 11);
     both_of(b"1024 sites and 10 stations", &cells, 1024, 10);

@@ -1,14 +1,15 @@
 // Best senders: a site whose cell is least and finite, or none. Only the subset's cells at the first n sites count. There are ties, cells that are
 // "none", and smaller cells that do not count.
 use crate::show::show_sender;
+use limits::Cost;
 
 // The cell "none", and the greatest cell that is finite.
-const NONE: u32 = 4294967295;
+const NONE: Cost = 4294967295;
 
-const GREATEST: u32 = 4294967294;
+const GREATEST: Cost = 4294967294;
 
 // Three sites and one station: the cells of the subset 1 are given, those of the empty subset are 0.
-fn sender(name: &[u8], first: u32, second: u32, third: u32) {
+fn sender(name: &[u8], first: Cost, second: Cost, third: Cost) {
     let cells = [0, first, 0, second, 0, third];
     show_sender(name, &cells, 3, 1, 1);
 }
@@ -41,7 +42,7 @@ fn some_none() {
 }
 
 // Two sites and two stations: beside the cells of a subset that is not empty stand smaller ones of other subsets.
-const EIGHT: [u32; 8] = [0, 5, NONE, 9, 0, 6, 4, NONE];
+const EIGHT: [Cost; 8] = [0, 5, NONE, 9, 0, 6, 4, NONE];
 
 // The best sender of the subset w in these cells, with any n and k.
 fn of_eight(name: &[u8], n: u32, k: u32, w: u32) {
@@ -60,7 +61,7 @@ fn other_subsets() {
 
 // Three sites and one station. The cells of the empty subset are 4, "none" and 2, as in no finished table; those of the subset 1 are "none",
 // "none" and 3.
-const SIX: [u32; 6] = [4, NONE, NONE, NONE, 2, 3];
+const SIX: [Cost; 6] = [4, NONE, NONE, NONE, 2, 3];
 
 // The best sender of the subset w among the first n sites.
 fn of_six(name: &[u8], n: u32, w: u32) {

@@ -1,6 +1,7 @@
 // A case: a name with the question after it, and the answer of the enquirer, as a line of text on standard output.
 // A cell is written as it stands in the table, so "none" is 4294967295.
 use answer::Enquiry;
+use limits::Cost;
 use sheet_text::print;
 use sheet_text::print_field;
 use sheet_text::print_refusal;
@@ -26,7 +27,7 @@ fn print_enquiry(enquiry: Enquiry) {
 }
 
 // The cell for site v and the subset w, of a table for n sites and k stations.
-pub fn show_cell(name: &[u8], cells: &[u32], n: u32, k: u32, v: u32, w: u32) {
+pub fn show_cell(name: &[u8], cells: &[Cost], n: u32, k: u32, v: u32, w: u32) {
     print(name);
     print_field(b", site ", v as u64);
     print_field(b", subset ", w as u64);
@@ -35,7 +36,7 @@ pub fn show_cell(name: &[u8], cells: &[u32], n: u32, k: u32, v: u32, w: u32) {
 }
 
 // The best sender of the subset w, of a table for n sites and k stations.
-pub fn show_sender(name: &[u8], cells: &[u32], n: u32, k: u32, w: u32) {
+pub fn show_sender(name: &[u8], cells: &[Cost], n: u32, k: u32, w: u32) {
     print(name);
     print_field(b", best sender of subset ", w as u64);
     print(b": ");

@@ -18,15 +18,15 @@ fn put_sheet(sheet: &mut [u8], arcs: usize) -> usize
 // The answer and the tables for a sheet with so many legs and one more.
 fn show_after(name: &[u8], arcs: usize, file: &[u8]) {
     let mut sheet = [0u8; 82000];
-    let length = put_sheet(&mut sheet, arcs);
-    show(name, &sheet[..length], file);
+    let size = put_sheet(&mut sheet, arcs);
+    show(name, &sheet[..size], file);
 }
 
 // The answer, with tables for 1024 sites and 8192 legs.
 fn answer_of(name: &[u8], file: &[u8]) {
     let mut sheet = [0u8; 82000];
-    let length = put_sheet(&mut sheet, 8191);
-    show_answer(name, &sheet[..length], file);
+    let size = put_sheet(&mut sheet, 8191);
+    show_answer(name, &sheet[..size], file);
 }
 
 // The plan whose one leg goes from 0 to 1023, where that is leg 8191.
@@ -65,8 +65,8 @@ fn after_many(name: &[u8], last: &[u8]) {
     let mut file = [0u8; 262160];
     let opened = put(&mut file, 0, b"PN\x00\x00\x42\x30\xbd\xc0\xff\xff");
     let filled = put_times(&mut file, opened, b"LG\x00\x00", 65534);
-    let length = put(&mut file, filled, last);
-    show(name, &ONE_ARC, &file[..length]);
+    let size = put(&mut file, filled, last);
+    show(name, &ONE_ARC, &file[..size]);
 }
 
 fn number_of_records() {

@@ -14,7 +14,7 @@ fn run_file(name: &[u8], sheet: &[u8], notation: &[u8]) {
     let mut file = [0u8; 256];
     let decoded = decode(notation, &mut file);
     match decoded {
-        Decoded::Length(length) => show(name, sheet, &file[..length]),
+        Decoded::Length(size) => show(name, sheet, &file[..size]),
         Decoded::Unreadable => show_unreadable(name),
     }
 }
@@ -24,7 +24,7 @@ fn run_case(name: &[u8], sheet_notation: &[u8], file_notation: &[u8]) {
     let mut sheet = [0u8; 256];
     let decoded = decode(sheet_notation, &mut sheet);
     match decoded {
-        Decoded::Length(length) => run_file(name, &sheet[..length], file_notation),
+        Decoded::Length(size) => run_file(name, &sheet[..size], file_notation),
         Decoded::Unreadable => show_unreadable(name),
     }
 }

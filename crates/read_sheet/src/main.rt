@@ -1,12 +1,12 @@
 // A sheet from standard input, at most 262,144 bytes, loaded into tables for the limits of document 01.
 // What the loading gave goes to standard output.
 use libc::STDIN_FILENO;
-use loader::load_sheet;
+use opener::load_sheet;
 
 fn main() {
     let mut bytes = [0u8; 262145];
-    let length = io::read_full(STDIN_FILENO, &mut bytes);
-    if 262144 < length {
+    let size = io::read_full(STDIN_FILENO, &mut bytes);
+    if 262144 < size {
         sheet_text::print(b"too long\n");
         return;
     }
@@ -15,7 +15,7 @@ fn main() {
     let mut weights = [0u32; limits::MAX_ARCS as usize];
     let mut landings = [0u16; limits::MAX_NODES as usize];
     let loaded = load_sheet(
-        &bytes[..length],
+        &bytes[..size],
         &mut starts,
         &mut ends,
         &mut weights,

@@ -47,8 +47,8 @@ fn after_many(name: &[u8], record: &[u8], count: usize, last: &[u8]) {
     let mut sheet = [0u8; 82000];
     let opened = put(&mut sheet, 0, b"HD\x00\x02\x01ST\x00\x00\x00");
     let filled = put_times(&mut sheet, opened, record, count);
-    let length = put(&mut sheet, filled, last);
-    verdict(name, &sheet[..length]);
+    let size = put(&mut sheet, filled, last);
+    verdict(name, &sheet[..size]);
 }
 
 // An `LK` after so many legs.

@@ -1,7 +1,7 @@
 // A case: its name and what the loading of its sheet gave.
 // Before the loading the tables of small sheets hold values that no sheet has.
 use case_text::names::print_name;
-use loader::load_sheet;
+use opener::load_sheet;
 use sheet_text::print_loaded;
 use sheet_text::print_verdict;
 

@@ -4,20 +4,20 @@ use crate::case::verdict;
 use sheet_text::print_field;
 ghost use Rattle.io.specs.Counts.{Counts};
 
-fn cut(sheet: &[u8], length: usize)
-    requires { ⌜ Counts length (now sheet) ⌝ }
+fn cut(sheet: &[u8], size: usize)
+    requires { ⌜ Counts size (now sheet) ⌝ }
 {
-    print_field(b"first ", length as u64);
-    verdict(b" bytes", &sheet[..length]);
+    print_field(b"first ", size as u64);
+    verdict(b" bytes", &sheet[..size]);
 }
 
 fn all_cuts(sheet: &[u8]) {
-    let mut length = 0;
-    while length < sheet.len() {
-        cut(sheet, length);
-        length += 1;
+    let mut size = 0;
+    while size < sheet.len() {
+        cut(sheet, size);
+        size += 1;
     }
-    cut(sheet, length);
+    cut(sheet, size);
 }
 
 pub fn run() {

@@ -10,12 +10,12 @@ use libc::STDIN_FILENO;
 
 fn main() {
     let mut bytes = [0u8; 65537];
-    let length = io::read_full(STDIN_FILENO, &mut bytes);
-    if 65536 < length {
+    let size = io::read_full(STDIN_FILENO, &mut bytes);
+    if 65536 < size {
         sheet_text::print(b"too long\n");
         return;
     }
-    text::run(&bytes[..length]);
+    text::run(&bytes[..size]);
     bounds::run();
     cuts::run();
     tables::run();

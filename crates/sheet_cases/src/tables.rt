@@ -3,7 +3,7 @@
 use case_text::names::print_name;
 use case_text::tables::print_entries;
 use case_text::tables::print_weights;
-use loader::load_sheet;
+use opener::load_sheet;
 use sheet_text::print_verdict;
 ghost use Prim.Native.Nat.{_≤_};
 

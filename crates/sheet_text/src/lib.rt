@@ -4,7 +4,7 @@ use answer::Answer;
 use answer::Refusal;
 use answer::code_of;
 use libc::STDOUT_FILENO;
-use loader::Loaded;
+use opener::Loaded;
 use subset::terminals_in;
 
 // Writes a text to standard output.

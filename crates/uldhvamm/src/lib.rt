@@ -6,9 +6,10 @@ use c_values::give_enquiry;
 use engine::planning::plan_sheet;
 use enquirer::best_sender;
 use enquirer::cell;
+use limits::Cost;
 use plan_reader::read::read_plan;
 ghost use mathlib.Core.Path.{_≡_};
-ghost use Rattle.loader.specs.Tables.{tables};
+ghost use Rattle.lent_tables.specs.SheetTables.{sheetTables};
 ghost use Rattle.mission.specs.Runs.{engineTables, readerTables};
 ghost use Rattle.engine.specs.Engine.{planningOf};
 ghost use Rattle.enquirer.specs.Questions.{cellAnswer, SenderAnswer};
@@ -24,18 +25,16 @@ pub extern "C" fn uldhvamm_plan(
     ends: &mut [u16],
     prices: &mut [u32],
     landings: &mut [u16],
-    cells: &mut [u32],
+    cells: &mut [Cost],
     marks: &mut [u8],
     plan: &mut [u8],
     answer: &mut [u64],
 ) -> u32
-    ensures { λ r. ⌜ call r (now (answer .exit))
-        (engineTables (tables (now (starts .exit)) (now (ends .exit)) (now (prices .exit)) (now (landings .exit)))
-        (now (cells .exit)) (now (marks .exit)) (now (plan .exit)))
-        ≡ callOf (planningOf (now (sheet .entry))
-        (engineTables (tables (now (starts .entry)) (now (ends .entry)) (now (prices .entry)) (now (landings .entry)))
-        (now (cells .entry)) (now (marks .entry)) (now (plan .entry))))
-        (now (answer .entry)) ⌝ }
+    ensures { λ r. ⌜ (let before = engineTables (sheetTables (now (starts .entry)) (now (ends .entry)) (now (prices .entry)) (now (landings .entry)))
+        (now (cells .entry)) (now (marks .entry)) (now (plan .entry)) in
+        let after = engineTables (sheetTables (now (starts .exit)) (now (ends .exit)) (now (prices .exit)) (now (landings .exit)))
+        (now (cells .exit)) (now (marks .exit)) (now (plan .exit)) in
+        call r (now (answer .exit)) after ≡ callOf (planningOf (now (sheet .entry)) before) (now (answer .entry))) ⌝ }
 {
     let sent = plan_sheet(sheet, starts, ends, prices, landings, cells, marks, plan);
     give(sent, answer)
@@ -53,11 +52,11 @@ pub extern "C" fn uldhvamm_read_plan(
     marks: &mut [u8],
     answer: &mut [u64],
 ) -> u32
-    ensures { λ r. ⌜ call r (now (answer .exit))
-        (readerTables (tables (now (starts .exit)) (now (ends .exit)) (now (prices .exit)) (now (landings .exit))) (now (marks .exit)))
-        ≡ callOf (readingOf (now (sheet .entry)) (now (file .entry))
-        (readerTables (tables (now (starts .entry)) (now (ends .entry)) (now (prices .entry)) (now (landings .entry))) (now (marks .entry))))
-        (now (answer .entry)) ⌝ }
+    ensures { λ r. ⌜ (let before = readerTables (sheetTables (now (starts .entry)) (now (ends .entry)) (now (prices .entry)) (now (landings .entry)))
+        (now (marks .entry)) in
+        let after = readerTables (sheetTables (now (starts .exit)) (now (ends .exit)) (now (prices .exit)) (now (landings .exit)))
+        (now (marks .exit)) in
+        call r (now (answer .exit)) after ≡ callOf (readingOf (now (sheet .entry)) (now (file .entry)) before) (now (answer .entry))) ⌝ }
 {
     let sent = read_plan(sheet, file, starts, ends, prices, landings, marks);
     give(sent, answer)
@@ -66,7 +65,7 @@ pub extern "C" fn uldhvamm_read_plan(
 // The enquirer: the cell for a site and a subset.
 #[no_mangle]
 pub extern "C" fn uldhvamm_cell(
-    cells: &[u32],
+    cells: &[Cost],
     sites: u32,
     stations: u32,
     site: u32,
@@ -82,7 +81,7 @@ pub extern "C" fn uldhvamm_cell(
 // The enquirer: the best sender of a subset.
 #[no_mangle]
 pub extern "C" fn uldhvamm_best_sender(
-    cells: &[u32],
+    cells: &[Cost],
     sites: u32,
     stations: u32,
     subset: u32,

@@ -11,11 +11,11 @@ try-file-requires c κs = search needs
 returns : tie.Need-returns
 returns c = search needs
 
-mul-length : tie.Need-mul-length
-mul-length c = search needs
+mul-size : tie.Need-mul-size
+mul-size c = search needs
 
-add-length : tie.Need-add-length
-add-length c = search needs
+add-size : tie.Need-add-size
+add-size c = search needs
 
 slice-aggregate-try-file : tie.Need-slice-aggregate-try-file
 slice-aggregate-try-file c = front _ _ (search needs)
@@ -32,8 +32,8 @@ try-found-spec =
     (tie.spec
     try-file-requires
     returns
-    mul-length
-    add-length
+    mul-size
+    add-size
     slice-aggregate-try-file
     try-file-requires-2
     returns-2)

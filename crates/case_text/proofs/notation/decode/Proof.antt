@@ -3,7 +3,7 @@
 -- Assumes nothing.
 use Prim.Native.Nat.{_-_, _≤_}
 use mathlib.Core.Path.{_≡_}
-use lib.ListN.{length as listLength}
+use lib.ListN.{length}
 use borrow.Author.Needs.{needs}
 use Rattle.io.proofs.Counting.{counts}
 use Rattle.case_text.proofs.Room.{room}
@@ -11,10 +11,10 @@ use Rattle.case_text.proofs.notation.decode.Statement.{statement}
 use Rattle.case_text.proofs.notation.decode.Tie as tie
 
 abbrev Inv-loop : tie.InvT-loop
-Inv-loop notation buffer₀ at₀ length₀ buffer at length = (listLength buffer ≡ listLength buffer₀) × (length ≤ listLength buffer)
+Inv-loop notation buffer₀ at₀ count₀ buffer at count = (length buffer ≡ length buffer₀) × (count ≤ length buffer)
 
 abbrev μ-loop : tie.MeasureT-loop
-μ-loop notation buffer₀ at₀ length₀ buffer at length = listLength notation - at
+μ-loop notation buffer₀ at₀ count₀ buffer at count = length notation - at
 
 loop-holds : tie.Need-loop-holds Inv-loop μ-loop
 loop-holds c = search needs
@@ -64,8 +64,8 @@ returns-2 c = search needs
 slice-write-buffer : tie.Need-slice-write-buffer Inv-loop μ-loop
 slice-write-buffer c = search needs
 
-add-length : tie.Need-add-length Inv-loop μ-loop
-add-length c = search needs
+add-count : tie.Need-add-count Inv-loop μ-loop
+add-count c = search needs
 
 loop-less : tie.Need-loop-less Inv-loop μ-loop
 loop-less c = search needs
@@ -75,7 +75,7 @@ loop-again c = (
   search needs,
   room
       (c .before .before .before .before .before .before .before .before .before .before .loop .buffer)
-      (c .before .before .before .before .before .before .before .before .before .before .loop .length)
+      (c .before .before .before .before .before .before .before .before .before .before .loop .count)
       _
       (search needs),
 )
@@ -108,7 +108,7 @@ decode-spec =
     same-length-2
     returns-2
     slice-write-buffer
-    add-length
+    add-count
     loop-less
     loop-again
     same-length-3

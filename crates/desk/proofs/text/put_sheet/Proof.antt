@@ -2,7 +2,7 @@
 -- Assumes nothing.
 use native.Mathlib.Omega.{arith}
 use denote.Ref.{now}
-use Rattle.sheet.specs.FieldLaws.{known-bytes}
+use Rattle.number_fields.specs.FieldLaws.{known-bytes}
 use Rattle.desk_lines.specs.Stored.{stored-same}
 use Rattle.desk.specs.Answered.{zeros, zeros-desk, answered}
 use borrow.Author.Needs.{needs}
