@@ -1,5 +1,5 @@
-// The opening of a sheet, with which every entry point that takes one begins: the sheet is judged whole, then the lengths of all needed tables are tested, and
-// only then are the tables that hold a sheet written.
+// The opening of a sheet, with which every entry point that takes one begins: the sheet is judged whole, then the lengths of all needed tables are
+// tested, and only then are the tables that hold a sheet written.
 use answer::Refusal;
 use answer::TableFault;
 use lent_tables::FurtherLengths;
@@ -9,8 +9,8 @@ use sheet::judge::Judged;
 use sheet::judge::judge;
 ghost use mathlib.Core.Path.{_≡_};
 ghost use Rattle.lent_tables.specs.SheetTables.{sheetTables};
-ghost use Rattle.opener.specs.Opening.{returned, outcome, loadingOf};
 ghost use Rattle.lent_tables.specs.Lengths.{noFurther};
+ghost use Rattle.opener.specs.Opening.{returned, outcome, loadingOf};
 
 // What an opening gives: the sites, stations and number of legs of the sheet that the tables now hold, or the refusal, 1 to 11.
 pub enum Loaded {
