@@ -28,19 +28,18 @@ use Rattle.sheet.specs.Arcs.{arcs}
 use Rattle.number_fields.specs.Fields.{Bytes, number16}
 use Rattle.sheet.specs.Verdict.{good, verdict}
 use Rattle.sheet.specs.declared.record.Record.{Record}
-use Rattle.loader.specs.Loaded.{loaded}
 use Rattle.opener.specs.Opening.{SheetOpening}
 use Rattle.opener.specs.Cases.{by-opening-cases}
 use Rattle.network.specs.Network.{graphOf}
 use Rattle.planfile.specs.Format.{fileSize, rootIn, totalIn, countIn, markAt, listedArc, arcsIn}
-use Rattle.mission.specs.Runs.{ReaderTables, readerTables, readerFurther, ReaderLong, GoodWith, Run, run}
+use Rattle.mission.specs.Runs.{ReaderTables, readerFurther, ReaderLong, GoodWith, Run, run}
 use Rattle.mission.specs.PointOne.{PlanOrRefusal, ReaderNumber, MarksReached, AsRead, ReaderSafe, ReaderAnswers, ReaderPointOne}
 use Rattle.mission.specs.PointTwo.{AcceptsPlans}
 use Rattle.mission.specs.PointLaws.{numberIn, same-number, plan-not-refused, refused-not-plan, sheet-number, sheet-refusal, first-due}
 use Rattle.plan_reader.specs.Reader.{headFault, arcFault, isFault, faultAt, arcsFault, orElse, fileFault, firstFailed, treeFault, answered}
 use Rattle.plan_reader.specs.Reader.{marksOf, marksBy, readAgainst, readingOf}
 use Rattle.plan_reader.specs.Marks.{MarksSay, marks-say, marks-size}
-use Rattle.plan_reader.specs.Rules.{given, file-refused, plan-refused, plan-accepted}
+use Rattle.plan_reader.specs.Rules.{given, filledWith, reachedMarks, file-refused, plan-refused, plan-accepted}
 use Rattle.plan_reader.specs.PointTwo.{point-two}
 
 -- ---- the numbers of faults
@@ -163,15 +162,8 @@ module _ (sheet file : List ℕ) (t : ReaderTables) where
   }
 
   module _ (n k : ℕ) (records : List Record) (e : verdict sheet ≡ good n k records) (long : ReaderLong n k (length (arcs records)) t) where
-    -- the leg and landing tables are filled
-    abbrev filled : List ℕ → ReaderTables
-    filled marks = readerTables (loaded n records (t .tables)) marks
-
-    abbrev reachedMarks : List ℕ
-    reachedMarks = marksBy none (graphOf n k records) file (t .marks)
-
     -- 14 to 16
-    own-safe : (fault : PlanFault) → Numbered cutPlan unknownNumber (some fault) → Safe (run (statedPlanFile fault) (filled (t .marks)))
+    own-safe : (fault : PlanFault) → Numbered cutPlan unknownNumber (some fault) → Safe (run (statedPlanFile fault) (filledWith n k records file t (t .marks)))
     own-safe fault bounds = record {
       answers = file-refusal fault;
       early = λ family number place q small. absurd (omega (arith, ap numberIn q, bounds));
@@ -187,7 +179,7 @@ module _ (sheet file : List ℕ) (t : ReaderTables) where
     }
 
     module _ (passed : fileFault n (length (arcs records)) file ≡ none) where
-      read-so : GoodWith sheet (λ n' k' records'. AsRead n' k' records' file t (filled reachedMarks))
+      read-so : GoodWith sheet (λ n' k' records'. AsRead n' k' records' file t (filledWith n k records file t (reachedMarks n k records file t)))
       read-so = record {
         n = n;
         k = k;
@@ -197,7 +189,7 @@ module _ (sheet file : List ℕ) (t : ReaderTables) where
       }
 
       -- 17 to 19
-      against-safe : (fault : PlanFault) → Numbered noTree falseTotal (some fault) → Safe (run (statedPlanFile fault) (filled reachedMarks))
+      against-safe : (fault : PlanFault) → Numbered noTree falseTotal (some fault) → Safe (run (statedPlanFile fault) (filledWith n k records file t (reachedMarks n k records file t)))
       against-safe fault bounds = record {
         answers = file-refusal fault;
         early = λ family number place q small. absurd (omega (arith, ap numberIn q, bounds));
@@ -207,7 +199,7 @@ module _ (sheet file : List ℕ) (t : ReaderTables) where
       }
 
       -- acceptance
-      accepted-safe : (root cost count : ℕ) → Safe (run (plan root cost count) (filled reachedMarks))
+      accepted-safe : (root cost count : ℕ) → Safe (run (plan root cost count) (filledWith n k records file t (reachedMarks n k records file t)))
       accepted-safe root cost count = record {
         answers = tt;
         early = λ family number place q small. absurd (plan-not-refused q);

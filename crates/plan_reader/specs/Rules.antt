@@ -42,11 +42,11 @@ module _ (sheet file : List ℕ) (t : ReaderTables) where
 
 module _ (n k : ℕ) (records : List Record) (file : List ℕ) (t : ReaderTables) where
   -- the leg and landing tables are filled, and the marks are these
-  abbrev filledWith : List ℕ → ReaderTables
+  abbrev pub filledWith : List ℕ → ReaderTables
   filledWith marks = readerTables (loaded n records (t .tables)) marks
 
   -- the marks of the sites that the listed legs reach, over those that stood there before
-  abbrev reachedMarks : List ℕ
+  abbrev pub reachedMarks : List ℕ
   reachedMarks = over (marksOf (graphOf n k records) (arcsIn file) (rootIn file)) (t .marks)
 
   -- the run, by the first fault of the file by itself and the first against the sheet
