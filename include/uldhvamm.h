@@ -19,8 +19,13 @@
  *   sender: its site, or ULDHVAMM_NO_SENDER; for a refusal: its place.
  *   As many of these as answer has entries for are written, from its first entry on; its other entries are untouched.
  *
+ * Interface
+ *   The parameters, widths and values below are those of interface ULDHVAMM_INTERFACE. A library may be older or newer than the header: a
+ *   program calls uldhvamm_interface() first, and calls nothing else where it gives another number.
+ *
  * Stack
- *   A call needs less than 32 KiB of stack. It allocates nothing, keeps nothing and may run in any number of threads at once.
+ *   A call allocates nothing, keeps nothing and may run in any number of threads at once. As measured (bench/tests/stack.rs), it runs in a
+ *   thread with 32 KiB of stack; nothing proves this.
  */
 #ifndef ULDHVAMM_H
 #define ULDHVAMM_H
@@ -31,6 +36,9 @@
 #ifdef __cplusplus
 extern "C" {
 #endif
+
+/* The interface that this header declares. */
+#define ULDHVAMM_INTERFACE 1
 
 /* The limits of a sheet, a cell for which there is no tree ("none"), and the answer that no site is a best sender. */
 #define ULDHVAMM_MAX_SITES 1024
@@ -64,6 +72,9 @@ enum {
     ULDHVAMM_STATION_MISSED = 18,
     ULDHVAMM_FALSE_TOTAL = 19
 };
+
+/* The interface of the library: ULDHVAMM_INTERFACE where this header is the library's. Every library has this function. */
+uint32_t uldhvamm_interface(void);
 
 /*
  * The engine: plans a sheet of n sites, k stations and m legs, and writes the plan file to the plan buffer.

@@ -1,10 +1,9 @@
 //! The cases of the benchmark: sheets to plan, plan files to read, and sheets that are only read.
 
+use uldhvamm::{Lengths, Tables};
 use uldhvamm_bench::compare::Call;
-use uldhvamm_bench::library;
 use uldhvamm_bench::sheets::{bad_reading, chain, filled_sheet, grid, random_sheet};
 use uldhvamm_bench::sheets::{Chain, Order, Sheet};
-use uldhvamm_bench::tables::{Lengths, Tables};
 
 /// A call with its sheet and the lengths of the lent tables.
 pub struct Case {
@@ -114,7 +113,7 @@ fn reading_case(name: &str, sheet: &Sheet, file: Vec<u8>) -> Case {
 fn plan_of(sheet: &Sheet) -> Vec<u8> {
     let mut tables = Tables::with(needed(sheet), || 0);
     let mut answer = [0; 3];
-    let number = library::plan(&sheet.bytes(), &mut tables, &mut answer);
+    let number = uldhvamm::plan(&sheet.bytes(), &mut tables, &mut answer);
     assert_eq!(number, 0, "the sheet has a plan");
     tables.plan.truncate(10 + 4 * answer[2] as usize);
     tables.plan

@@ -2,9 +2,9 @@
 //!
 //! What the library answers to a question about a cost table is held to what is due by the reference.
 
+use crate::reference;
 use crate::reference::Due;
-use crate::tables::{entry_difference, CostTable, Question, Tables};
-use crate::{library, reference};
+use uldhvamm::{CostTable, Question, Tables};
 
 /// What a call returned and left.
 #[derive(Clone, Debug, PartialEq, Eq)]
@@ -26,8 +26,8 @@ pub enum Call {
 /// Calls the library. Only this is timed by the benchmark.
 pub fn call_library(call: &Call, sheet: &[u8], tables: &mut Tables, answer: &mut [u64]) -> u32 {
     match call {
-        Call::Plan => library::plan(sheet, tables, answer),
-        Call::Read(file) => library::read_plan(sheet, file, tables, answer),
+        Call::Plan => uldhvamm::plan(sheet, tables, answer),
+        Call::Read(file) => uldhvamm::read_plan(sheet, file, tables, answer),
     }
 }
 
@@ -48,7 +48,36 @@ pub fn difference(library: &Run, reference: &Run) -> Option<String> {
         ));
     }
     entry_difference("answer", &library.answer, &reference.answer)
-        .or_else(|| library.tables.difference(&reference.tables))
+        .or_else(|| table_difference(&library.tables, &reference.tables))
+}
+
+/// The first place at which two sets of tables differ, in words; nothing where they are equal.
+pub fn table_difference(one: &Tables, other: &Tables) -> Option<String> {
+    entry_difference("starts", &one.starts, &other.starts)
+        .or_else(|| entry_difference("ends", &one.ends, &other.ends))
+        .or_else(|| entry_difference("prices", &one.prices, &other.prices))
+        .or_else(|| entry_difference("landings", &one.landings, &other.landings))
+        .or_else(|| entry_difference("cells", &one.cells, &other.cells))
+        .or_else(|| entry_difference("marks", &one.marks, &other.marks))
+        .or_else(|| entry_difference("plan", &one.plan, &other.plan))
+}
+/// The first place at which two slices differ, in words.
+pub fn entry_difference<T>(name: &str, left: &[T], right: &[T]) -> Option<String>
+where
+    T: PartialEq + std::fmt::Display,
+{
+    if left.len() != right.len() {
+        return Some(format!(
+            "{name}: lengths {} and {}",
+            left.len(),
+            right.len()
+        ));
+    }
+    let place = left.iter().zip(right).position(|(a, b)| a != b)?;
+    Some(format!(
+        "{name}[{place}]: {} and {}",
+        left[place], right[place]
+    ))
 }
 
 /// Runs both on copies of `tables` and `answer`. Gives the run where they agree, else the difference with sheet and file.
@@ -81,7 +110,7 @@ pub fn check_enquiry(
     due: &Due,
 ) -> Result<(), String> {
     let mut after = answer.to_vec();
-    let number = library::enquire(table, question, &mut after);
+    let number = uldhvamm::enquire(table, question, &mut after);
     let first = after.first().is_none_or(|value| due.values.contains(value));
     if number == due.number && first && after.iter().skip(1).eq(answer.iter().skip(1)) {
         return Ok(());

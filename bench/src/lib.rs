@@ -1,13 +1,10 @@
-//! The planner's library behind a safe wrapper, an independent implementation of document 01, and what compares them.
+//! An independent implementation of document 01, and what compares it with the library.
 //!
-//! `library` calls the static library, `reference` is the independent implementation, `sheets` builds sheets, plan files and questions
-//! about cost tables, `compare` runs both implementations on equal copies and compares all that they leave. Only `library` has unsafe
-//! code.
+//! `reference` is the independent implementation, `sheets` builds sheets, plan files and questions about cost tables, `compare` runs both
+//! implementations on equal copies and compares all that they leave.
 
-#![deny(unsafe_code)]
+#![forbid(unsafe_code)]
 
 pub mod compare;
-pub mod library;
 pub mod reference;
 pub mod sheets;
-pub mod tables;

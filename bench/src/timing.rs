@@ -3,9 +3,9 @@
 use crate::cases::Case;
 use std::io::{stderr, Write};
 use std::time::{Duration, Instant};
+use uldhvamm::Tables;
 use uldhvamm_bench::compare::{call_library, call_reference, described, difference, Call, Run};
 use uldhvamm_bench::sheets::Random;
-use uldhvamm_bench::tables::Tables;
 
 /// Rounds are made until they have taken this long, but not fewer than `LEAST_ROUNDS` and not more than `MOST_ROUNDS`.
 const ENOUGH: Duration = Duration::from_secs(3);

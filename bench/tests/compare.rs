@@ -3,11 +3,11 @@
 //! The tables, the plan buffer and `answer` are filled with garbage, have the exact lengths, longer ones or shorter ones, and are
 //! compared whole. Each test counts the answers and fails where one that it aims at did not occur.
 
+use uldhvamm::{Lengths, Tables};
 use uldhvamm_bench::compare::{both, Call, Run};
 use uldhvamm_bench::reference;
 use uldhvamm_bench::sheets::{damaged, small_sheet, varied_file, wide_sheet};
 use uldhvamm_bench::sheets::{leg_records, PlanFile, Random, Sheet};
-use uldhvamm_bench::tables::{Lengths, Tables};
 
 /// How often each answer occurred; entry 0 is for plans and acceptances.
 struct Counts {

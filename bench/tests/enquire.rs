@@ -5,12 +5,12 @@
 
 use std::collections::BTreeMap;
 use std::hint::black_box;
+use uldhvamm::{answer_to_question, answer_to_sheet, best_sender, cell};
+use uldhvamm::{Answer, CostTable, Enquiry, Lengths, Question, Tables, NO_SENDER};
 use uldhvamm_bench::compare::check_enquiry;
-use uldhvamm_bench::library::{answer_to_question, answer_to_sheet, best_sender, cell};
 use uldhvamm_bench::reference::{self, due, Due, NO_COST};
 use uldhvamm_bench::sheets::{question, random_sheet, random_table, small_sheet, wide_sheet};
 use uldhvamm_bench::sheets::{Random, Sheet};
-use uldhvamm_bench::tables::{Answer, CostTable, Enquiry, Lengths, Question, Tables, NO_SENDER};
 
 /// How often each kind of answer occurred.
 #[derive(Default)]

@@ -1,10 +1,11 @@
 //! The library writes nothing outside of the slices that it is lent: these are parts of larger tables, whose rest is looked at.
 
 use std::hint::black_box;
-use uldhvamm_bench::library::{enquire, plan_lent, read_plan_lent};
+use uldhvamm::{enquire, plan_lent, read_plan_lent};
+use uldhvamm::{CostTable, Lengths, Lent, Tables};
+use uldhvamm_bench::compare::table_difference;
 use uldhvamm_bench::reference::due;
 use uldhvamm_bench::sheets::{question, random_table, small_sheet, PlanFile, Random, Sheet};
-use uldhvamm_bench::tables::{CostTable, Lengths, Lent, Tables};
 
 /// Entries of a table before and after the part that is lent.
 const GUARD: usize = 8;
@@ -58,7 +59,7 @@ fn copy_inner(from: &mut Tables, to: &mut Tables) {
 fn check_guards(before: &Tables, mut after: Tables, sheet: &Sheet) {
     let mut expected = before.clone();
     copy_inner(&mut after, &mut expected);
-    assert_eq!(after.difference(&expected), None, "{sheet:?}");
+    assert_eq!(table_difference(&after, &expected), None, "{sheet:?}");
 }
 
 #[test]

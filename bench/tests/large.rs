@@ -1,9 +1,9 @@
 //! The library against the reference on sheets of 1,024 sites and 10 stations, tables compared whole.
 
+use uldhvamm::{Lengths, Tables};
 use uldhvamm_bench::compare::{both, Call, Run};
 use uldhvamm_bench::sheets::{bad_reading, chain, filled_sheet, grid, random_sheet};
 use uldhvamm_bench::sheets::{Chain, Order, PlanFile, Random, Sheet};
-use uldhvamm_bench::tables::{Lengths, Tables};
 
 /// Runs both with tables of garbage, a few entries longer than needed, and fails where they differ.
 fn check(call: &Call, sheet: &Sheet) -> Run {

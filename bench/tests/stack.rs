@@ -1,11 +1,11 @@
 //! The library in a thread with a stack of 32 KiB, which does nothing but the call.
 
 use std::thread;
+use uldhvamm::enquire;
+use uldhvamm::{CostTable, Lengths, Question, Tables};
 use uldhvamm_bench::compare::{call_library, call_reference, difference, Call, Run};
-use uldhvamm_bench::library::enquire;
 use uldhvamm_bench::reference::due;
 use uldhvamm_bench::sheets::{chain, random_sheet, Chain, Order, Random, Sheet};
-use uldhvamm_bench::tables::{CostTable, Lengths, Question, Tables};
 
 const STACK: usize = 32 * 1024;
 

@@ -1,9 +1,9 @@
 //! The worked sheets A to L of document 01, with their answers written out, for the library and the reference.
 
+use uldhvamm::answer_to_question;
+use uldhvamm::{Answer, CostTable, Enquiry, Lengths, Question, Tables};
 use uldhvamm_bench::compare::{both, Call};
-use uldhvamm_bench::library::answer_to_question;
 use uldhvamm_bench::sheets::{PlanFile, Random, Sheet};
-use uldhvamm_bench::tables::{Answer, CostTable, Enquiry, Lengths, Question, Tables};
 
 /// The plan file of sheet A, in hexadecimal.
 const FILE_OF_A: &str = "504E00000000000A00034C4700004C4700014C470002";

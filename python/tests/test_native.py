@@ -6,10 +6,11 @@ import ctypes
 import random
 import unittest
 from typing import Any, Optional
+from unittest import mock
 
 from uldhvamm import build_plan
 from uldhvamm.library import default_path
-from uldhvamm.native import functions_of
+from uldhvamm.native import INTERFACE, functions_of
 from worked import FILE_K, FILE_L, FILE_OF_A, SHEETS
 
 NONE = 4294967295
@@ -78,6 +79,17 @@ class Native(unittest.TestCase):
             self.assertEqual(returned, number, other)
             expected = {**written, "answer": values[:length]}
             self.assertEqual(after, {name: over(expected.get(name, []), entries) for name, entries in before.items()}, (length, other))
+
+    def test_the_interface(self) -> None:
+        self.assertEqual(ctypes.CDLL(str(default_path().absolute())).uldhvamm_interface(), INTERFACE)
+
+    def test_another_interface_is_refused(self) -> None:
+        with mock.patch("uldhvamm.native.INTERFACE", INTERFACE + 1), self.assertRaises(ImportError):
+            functions_of(default_path())
+
+    def test_a_library_without_an_interface_is_refused(self) -> None:
+        with mock.patch("ctypes.CDLL", return_value=object()), self.assertRaises(ImportError):
+            functions_of(default_path())
 
     def test_a_plan(self) -> None:
         self.tried(SHEETS["A"], None, 0, [0, 10, 3], {**TABLES_OF_A, "plan": list(FILE_OF_A)})

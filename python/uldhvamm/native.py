@@ -1,4 +1,4 @@
-"""The four functions of the shared library, as include/uldhvamm.h declares them.
+"""The functions of the shared library, as include/uldhvamm.h declares them.
 
 A table or a byte string passes as a pointer and the number of its entries. Byte strings pass as `bytes`, without a copy; tables pass as
 ctypes arrays. Those that are written are each call's own, and a cost table that the enquirer reads may be shared by calls, so that what
@@ -34,6 +34,10 @@ _CELL: list[Any] = [*_TABLE_32, *_NUMBER, *_NUMBER, *_NUMBER, *_NUMBER, *_TABLE_
 _BEST_SENDER: list[Any] = [*_TABLE_32, *_NUMBER, *_NUMBER, *_NUMBER, *_TABLE_64]
 
 
+# The number of the interface that is declared here.
+INTERFACE = 1
+
+
 class Functions(NamedTuple):
     """The functions, without `uldhvamm_` before their names. Each takes the arguments of the header, in its order, and returns its number.
 
@@ -47,14 +51,26 @@ class Functions(NamedTuple):
 
 
 def functions_of(path: Path) -> Functions:
-    """The functions of the shared library at this path."""
+    """The functions of the shared library at this path. A library with another interface is an `ImportError`."""
     shared = ctypes.CDLL(str(path.absolute()))
+    interface = _interface_of(shared)
+    if interface != INTERFACE:
+        raise ImportError(f"{path} has interface {interface}, and this package has interface {INTERFACE}")
     return Functions(
         plan=_declared(shared.uldhvamm_plan, _PLAN),
         read_plan=_declared(shared.uldhvamm_read_plan, _READ_PLAN),
         cell=_declared(shared.uldhvamm_cell, _CELL),
         best_sender=_declared(shared.uldhvamm_best_sender, _BEST_SENDER),
     )
+
+
+def _interface_of(shared: ctypes.CDLL) -> int:
+    """The interface of a shared library; 0 where it does not say which it has."""
+    try:
+        asked = _declared(shared.uldhvamm_interface, [])
+    except AttributeError:
+        return 0
+    return asked()
 
 
 def _declared(function: Any, arguments: list[Any]) -> Callable[..., int]:

@@ -1,7 +1,7 @@
 //! What the enquirer is to answer, in the order 3, 11, 4, 5, each at place 0.
 
 use super::NO_COST;
-use crate::tables::{CostTable, Question, NO_SENDER};
+use uldhvamm::{CostTable, Question, NO_SENDER};
 
 /// What is due to a question: the number that is returned, and the values of which `answer` is to begin with one.
 ///

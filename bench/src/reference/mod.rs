@@ -26,8 +26,8 @@ mod sheet;
 pub use enquirer::{due, Due};
 pub use sheet::{read as read_sheet, Leg, Sheet};
 
-use crate::tables::Tables;
 use plan_file::PlanFile;
+use uldhvamm::Tables;
 
 /// A cell for which there is no tree.
 pub const NO_COST: u32 = u32::MAX;

@@ -1,7 +1,7 @@
 //! Cost tables of random cells, and questions about them: numbers within, at and past the limits, in tables of any length.
 
 use super::Random;
-use crate::tables::{CostTable, Question};
+use uldhvamm::{CostTable, Question};
 
 /// "None".
 const NONE: u32 = u32::MAX;

@@ -1,3 +1,5 @@
+-- the number of the interface
+pub mod Interface
 -- what a C function returns and leaves of a run, and some calls computed
 pub mod Returned
 pub mod Worked

@@ -15,7 +15,19 @@ ghost use Rattle.engine.specs.Engine.{planningOf};
 ghost use Rattle.enquirer.specs.Questions.{cellAnswer, SenderAnswer};
 ghost use Rattle.plan_reader.specs.Reader.{readingOf};
 ghost use Rattle.c_values.specs.Values.{Gives, GivesOne};
+ghost use Rattle.uldhvamm.specs.Interface.{interface};
 ghost use Rattle.uldhvamm.specs.Returned.{call, callOf};
+
+// The number of the interface: one more where a landing changes the parameters, the widths or the values of a function that stood before.
+const INTERFACE: u32 = 1;
+
+// The interface of this library. A caller that was built for another must not call the functions below.
+#[no_mangle]
+pub extern "C" fn uldhvamm_interface() -> u32
+    ensures { λ r. ⌜ r ≡ interface ⌝ }
+{
+    INTERFACE
+}
 
 // The engine.
 #[no_mangle]

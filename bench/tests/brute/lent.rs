@@ -1,0 +1,96 @@
+//! What is lent to a call on a small sheet: each table has two entries more than any sheet of the family needs.
+
+use uldhvamm::{plan_lent, read_plan_lent, Lent};
+
+use crate::trees::Small;
+
+/// The tables, the plan buffer, and the answer with the number that is returned.
+#[derive(Clone, Debug, PartialEq, Eq)]
+pub struct Left {
+    pub number: u32,
+    pub answer: [u64; 4],
+    pub starts: [u16; 8],
+    pub ends: [u16; 8],
+    pub prices: [u32; 8],
+    pub landings: [u16; 6],
+    pub cells: [u32; 34],
+    pub marks: [u8; 6],
+    pub plan: [u8; 24],
+}
+
+/// What is lent, before a call: values that no sheet and no plan has.
+pub const BEFORE: Left = Left {
+    number: 0,
+    answer: [77; 4],
+    starts: [60_001; 8],
+    ends: [60_002; 8],
+    prices: [4_000_000_003; 8],
+    landings: [60_004; 6],
+    cells: [4_000_000_005; 34],
+    marks: [9; 6],
+    plan: [238; 24],
+};
+
+impl Left {
+    /// What the engine leaves.
+    pub fn of_plan(sheet: &[u8]) -> Left {
+        let mut left = BEFORE;
+        let mut answer = left.answer;
+        left.number = plan_lent(sheet, left.lend(), &mut answer);
+        left.answer = answer;
+        left
+    }
+
+    /// What the plan reader leaves.
+    pub fn of_reading(sheet: &[u8], file: &[u8]) -> Left {
+        let mut left = BEFORE;
+        let mut answer = left.answer;
+        left.number = read_plan_lent(sheet, file, left.lend(), &mut answer);
+        left.answer = answer;
+        left
+    }
+
+    fn lend(&mut self) -> Lent<'_> {
+        Lent {
+            starts: &mut self.starts,
+            ends: &mut self.ends,
+            prices: &mut self.prices,
+            landings: &mut self.landings,
+            cells: &mut self.cells,
+            marks: &mut self.marks,
+            plan: &mut self.plan,
+        }
+    }
+
+    /// A refusal, with its place.
+    pub fn refused(mut self, number: u32, place: usize) -> Left {
+        self.number = number;
+        self.answer[0] = place as u64;
+        self
+    }
+
+    /// A plan or an acceptance, with its root, total and number of legs.
+    pub fn planned(mut self, root: usize, total: u32, legs: usize) -> Left {
+        self.answer[..3].copy_from_slice(&[root as u64, u64::from(total), legs as u64]);
+        self
+    }
+
+    /// The leg and landing tables filled.
+    pub fn filled(mut self, small: &Small) -> Left {
+        for (place, leg) in small.legs.iter().enumerate() {
+            self.starts[place] = leg.from;
+            self.ends[place] = leg.to;
+            self.prices[place] = leg.price;
+        }
+        self.landings[..small.sites].copy_from_slice(&small.landings);
+        self
+    }
+
+    /// The first marks: 1 for the sites of a set, else 0.
+    pub fn marked(mut self, small: &Small, sites: u32) -> Left {
+        for (site, mark) in self.marks[..small.sites].iter_mut().enumerate() {
+            *mark = (sites >> site & 1) as u8;
+        }
+        self
+    }
+}

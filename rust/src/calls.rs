@@ -1,0 +1,227 @@
+//! The static library as declared in include/uldhvamm.h, and a safe wrapper.
+//!
+//! A Rust slice points to as many entries as it has, aligned for their type, and a mutable one overlaps no other slice. The library
+//! asks for nothing else. Each call first tests that the library has the interface that is declared here; it panics where it has another.
+
+#![allow(unsafe_code)]
+
+use crate::tables::{Answer, CostTable, Enquiry, Lent, Question, Tables};
+
+/// The number of the interface that is declared here.
+pub const INTERFACE: u32 = 1;
+
+/// The most sites, stations and legs of a sheet.
+pub const MAX_SITES: usize = 1024;
+pub const MAX_STATIONS: usize = 10;
+pub const MAX_LEGS: usize = 8192;
+
+/// A cell for which there is no tree.
+pub const NO_COST: u32 = 4_294_967_295;
+
+extern "C" {
+    fn uldhvamm_interface() -> u32;
+
+    fn uldhvamm_plan(
+        sheet: *const u8,
+        sheet_length: usize,
+        starts: *mut u16,
+        starts_length: usize,
+        ends: *mut u16,
+        ends_length: usize,
+        prices: *mut u32,
+        prices_length: usize,
+        landings: *mut u16,
+        landings_length: usize,
+        cells: *mut u32,
+        cells_length: usize,
+        marks: *mut u8,
+        marks_length: usize,
+        plan: *mut u8,
+        plan_length: usize,
+        answer: *mut u64,
+        answer_length: usize,
+    ) -> u32;
+
+    fn uldhvamm_read_plan(
+        sheet: *const u8,
+        sheet_length: usize,
+        file: *const u8,
+        file_length: usize,
+        starts: *mut u16,
+        starts_length: usize,
+        ends: *mut u16,
+        ends_length: usize,
+        prices: *mut u32,
+        prices_length: usize,
+        landings: *mut u16,
+        landings_length: usize,
+        marks: *mut u8,
+        marks_length: usize,
+        answer: *mut u64,
+        answer_length: usize,
+    ) -> u32;
+
+    fn uldhvamm_cell(
+        cells: *const u32,
+        cells_length: usize,
+        sites: u32,
+        stations: u32,
+        site: u32,
+        subset: u32,
+        answer: *mut u64,
+        answer_length: usize,
+    ) -> u32;
+
+    fn uldhvamm_best_sender(
+        cells: *const u32,
+        cells_length: usize,
+        sites: u32,
+        stations: u32,
+        subset: u32,
+        answer: *mut u64,
+        answer_length: usize,
+    ) -> u32;
+}
+
+/// The number of the library's interface.
+pub fn interface() -> u32 {
+    // SAFETY: the function takes nothing.
+    unsafe { uldhvamm_interface() }
+}
+
+/// Panics where the library has another interface: its functions may take other parameters.
+fn check_interface() {
+    assert_eq!(
+        interface(),
+        INTERFACE,
+        "the static library has another interface than this wrapper"
+    );
+}
+
+/// Plans a sheet. Returns 0 for a plan, else the number of the refusal.
+pub fn plan(sheet: &[u8], tables: &mut Tables, answer: &mut [u64]) -> u32 {
+    plan_lent(sheet, tables.lend(), answer)
+}
+
+/// Reads a plan file against a sheet. Returns 0 for an acceptance, else the number of the refusal. Cells and plan buffer are not lent.
+pub fn read_plan(sheet: &[u8], file: &[u8], tables: &mut Tables, answer: &mut [u64]) -> u32 {
+    read_plan_lent(sheet, file, tables.lend(), answer)
+}
+
+/// `plan` with slices.
+pub fn plan_lent(sheet: &[u8], lent: Lent, answer: &mut [u64]) -> u32 {
+    check_interface();
+    // SAFETY: each pointer and length are those of one slice; the mutable slices overlap nothing.
+    unsafe {
+        uldhvamm_plan(
+            sheet.as_ptr(),
+            sheet.len(),
+            lent.starts.as_mut_ptr(),
+            lent.starts.len(),
+            lent.ends.as_mut_ptr(),
+            lent.ends.len(),
+            lent.prices.as_mut_ptr(),
+            lent.prices.len(),
+            lent.landings.as_mut_ptr(),
+            lent.landings.len(),
+            lent.cells.as_mut_ptr(),
+            lent.cells.len(),
+            lent.marks.as_mut_ptr(),
+            lent.marks.len(),
+            lent.plan.as_mut_ptr(),
+            lent.plan.len(),
+            answer.as_mut_ptr(),
+            answer.len(),
+        )
+    }
+}
+
+/// `read_plan` with slices. The cells and the plan buffer of `lent` are left out.
+pub fn read_plan_lent(sheet: &[u8], file: &[u8], lent: Lent, answer: &mut [u64]) -> u32 {
+    check_interface();
+    // SAFETY: each pointer and length are those of one slice; the mutable slices overlap nothing.
+    unsafe {
+        uldhvamm_read_plan(
+            sheet.as_ptr(),
+            sheet.len(),
+            file.as_ptr(),
+            file.len(),
+            lent.starts.as_mut_ptr(),
+            lent.starts.len(),
+            lent.ends.as_mut_ptr(),
+            lent.ends.len(),
+            lent.prices.as_mut_ptr(),
+            lent.prices.len(),
+            lent.landings.as_mut_ptr(),
+            lent.landings.len(),
+            lent.marks.as_mut_ptr(),
+            lent.marks.len(),
+            answer.as_mut_ptr(),
+            answer.len(),
+        )
+    }
+}
+
+/// Asks for the cell of a site and a subset. Returns 0 for a cell, "none" too, else the number of the refusal.
+pub fn cell(table: CostTable, site: u32, subset: u32, answer: &mut [u64]) -> u32 {
+    check_interface();
+    // SAFETY: each pointer and length are those of one slice; the mutable slice overlaps nothing.
+    unsafe {
+        uldhvamm_cell(
+            table.cells.as_ptr(),
+            table.cells.len(),
+            table.sites,
+            table.stations,
+            site,
+            subset,
+            answer.as_mut_ptr(),
+            answer.len(),
+        )
+    }
+}
+
+/// Asks for the best sender of a subset. Returns 0 for a site and for `NO_SENDER`, else the number of the refusal.
+pub fn best_sender(table: CostTable, subset: u32, answer: &mut [u64]) -> u32 {
+    check_interface();
+    // SAFETY: each pointer and length are those of one slice; the mutable slice overlaps nothing.
+    unsafe {
+        uldhvamm_best_sender(
+            table.cells.as_ptr(),
+            table.cells.len(),
+            table.sites,
+            table.stations,
+            subset,
+            answer.as_mut_ptr(),
+            answer.len(),
+        )
+    }
+}
+
+/// `cell` or `best_sender`, as the question says.
+pub fn enquire(table: CostTable, question: Question, answer: &mut [u64]) -> u32 {
+    match question {
+        Question::Cell { site, subset } => cell(table, site, subset, answer),
+        Question::BestSender { subset } => best_sender(table, subset, answer),
+    }
+}
+
+/// Plans a sheet and decodes the answer.
+pub fn answer_to_sheet(sheet: &[u8], tables: &mut Tables) -> Answer {
+    let mut answer = [0; 3];
+    let number = plan(sheet, tables, &mut answer);
+    Answer::decode(number, &answer)
+}
+
+/// Reads a plan file and decodes the answer.
+pub fn answer_to_file(sheet: &[u8], file: &[u8], tables: &mut Tables) -> Answer {
+    let mut answer = [0; 3];
+    let number = read_plan(sheet, file, tables, &mut answer);
+    Answer::decode(number, &answer)
+}
+
+/// Asks about a cost table and decodes the answer.
+pub fn answer_to_question(table: CostTable, question: Question) -> Enquiry {
+    let mut answer = [0];
+    let number = enquire(table, question, &mut answer);
+    Enquiry::decode(question, number, &answer)
+}

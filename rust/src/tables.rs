@@ -1,0 +1,173 @@
+//! The tables that a caller lends, their lengths, the questions about a cost table, and the decoded answers. They hold data only.
+
+use crate::calls::{MAX_LEGS, MAX_SITES, MAX_STATIONS};
+
+/// The lengths of the lent tables, in entries, and of the plan buffer, in bytes.
+#[derive(Clone, Copy, Debug, PartialEq, Eq)]
+pub struct Lengths {
+    pub starts: usize,
+    pub ends: usize,
+    pub prices: usize,
+    pub landings: usize,
+    pub cells: usize,
+    pub marks: usize,
+    pub plan: usize,
+}
+
+impl Lengths {
+    /// The least lengths that a sheet of n sites, k stations and m legs needs, and a plan buffer that holds every tree of n sites.
+    pub fn needed(n: usize, k: usize, m: usize) -> Lengths {
+        Lengths {
+            starts: m,
+            ends: m,
+            prices: m,
+            landings: n,
+            cells: n << k,
+            marks: n,
+            plan: 10 + 4 * n.saturating_sub(1),
+        }
+    }
+}
+
+/// The lent tables and the plan buffer.
+#[derive(Clone, Debug, PartialEq, Eq)]
+pub struct Tables {
+    pub starts: Vec<u16>,
+    pub ends: Vec<u16>,
+    pub prices: Vec<u32>,
+    pub landings: Vec<u16>,
+    pub cells: Vec<u32>,
+    pub marks: Vec<u8>,
+    pub plan: Vec<u8>,
+}
+
+impl Tables {
+    /// Tables of zeros, just long enough for a sheet of n sites, k stations and m legs.
+    pub fn for_sheet(n: usize, k: usize, m: usize) -> Tables {
+        Tables::with(Lengths::needed(n, k, m), || 0)
+    }
+
+    /// Tables of zeros, long enough for every sheet. The cells take 4 MiB.
+    pub fn for_any_sheet() -> Tables {
+        Tables::for_sheet(MAX_SITES, MAX_STATIONS, MAX_LEGS)
+    }
+
+    /// Tables of any lengths; each entry is what `contents` gives, cut to the entry's width.
+    pub fn with(lengths: Lengths, mut contents: impl FnMut() -> u64) -> Tables {
+        Tables {
+            starts: (0..lengths.starts).map(|_| contents() as u16).collect(),
+            ends: (0..lengths.ends).map(|_| contents() as u16).collect(),
+            prices: (0..lengths.prices).map(|_| contents() as u32).collect(),
+            landings: (0..lengths.landings).map(|_| contents() as u16).collect(),
+            cells: (0..lengths.cells).map(|_| contents() as u32).collect(),
+            marks: (0..lengths.marks).map(|_| contents() as u8).collect(),
+            plan: (0..lengths.plan).map(|_| contents() as u8).collect(),
+        }
+    }
+
+    /// Makes these tables equal to others, in place where the lengths are equal.
+    pub fn copy_from(&mut self, other: &Tables) {
+        self.starts.clone_from(&other.starts);
+        self.ends.clone_from(&other.ends);
+        self.prices.clone_from(&other.prices);
+        self.landings.clone_from(&other.landings);
+        self.cells.clone_from(&other.cells);
+        self.marks.clone_from(&other.marks);
+        self.plan.clone_from(&other.plan);
+    }
+
+    /// The tables as slices, to be lent.
+    pub fn lend(&mut self) -> Lent<'_> {
+        Lent {
+            starts: &mut self.starts,
+            ends: &mut self.ends,
+            prices: &mut self.prices,
+            landings: &mut self.landings,
+            cells: &mut self.cells,
+            marks: &mut self.marks,
+            plan: &mut self.plan,
+        }
+    }
+}
+
+/// The tables as slices. They may be parts of larger ones.
+pub struct Lent<'a> {
+    pub starts: &'a mut [u16],
+    pub ends: &'a mut [u16],
+    pub prices: &'a mut [u32],
+    pub landings: &'a mut [u16],
+    pub cells: &'a mut [u32],
+    pub marks: &'a mut [u8],
+    pub plan: &'a mut [u8],
+}
+
+/// An answer of the engine or the plan reader, decoded.
+#[derive(Clone, Copy, Debug, PartialEq, Eq)]
+pub enum Answer {
+    /// A plan, or an accepted plan file.
+    Plan { root: u64, total: u64, legs: u64 },
+    /// A refusal of document 01's table.
+    Refused { number: u32, place: u64 },
+}
+
+impl Answer {
+    /// The answer of a call that returned `number` and left `answer`.
+    pub fn decode(number: u32, answer: &[u64; 3]) -> Answer {
+        match number {
+            0 => Answer::Plan {
+                root: answer[0],
+                total: answer[1],
+                legs: answer[2],
+            },
+            _ => Answer::Refused {
+                number,
+                place: answer[0],
+            },
+        }
+    }
+}
+
+/// A cost table with its numbers of sites and stations beside it. It need not be a finished one.
+#[derive(Clone, Copy, Debug)]
+pub struct CostTable<'a> {
+    pub cells: &'a [u32],
+    pub sites: u32,
+    pub stations: u32,
+}
+
+/// A question to the enquirer. A subset is a number, in which station i is worth 2^i.
+#[derive(Clone, Copy, Debug, PartialEq, Eq)]
+pub enum Question {
+    /// The cell of a site and a subset.
+    Cell { site: u32, subset: u32 },
+    /// The best sender of a subset.
+    BestSender { subset: u32 },
+}
+
+/// What stands in `answer` where a subset has no best sender.
+pub const NO_SENDER: u64 = u64::MAX;
+
+/// An answer of the enquirer, decoded.
+#[derive(Clone, Copy, Debug, PartialEq, Eq)]
+pub enum Enquiry {
+    /// A cell as it stands in the table; 4,294,967,295 is "none".
+    Cell { cell: u64 },
+    /// A site whose cell is least and finite.
+    Sender { site: u64 },
+    /// No cell of the subset is finite.
+    NoSender,
+    /// A refusal of document 01's table.
+    Refused { number: u32, place: u64 },
+}
+
+impl Enquiry {
+    /// The answer to a question whose call returned `number` and left `answer`.
+    pub fn decode(question: Question, number: u32, answer: &[u64; 1]) -> Enquiry {
+        match (number, question, answer[0]) {
+            (0, Question::Cell { .. }, cell) => Enquiry::Cell { cell },
+            (0, Question::BestSender { .. }, NO_SENDER) => Enquiry::NoSender,
+            (0, Question::BestSender { .. }, site) => Enquiry::Sender { site },
+            (_, _, place) => Enquiry::Refused { number, place },
+        }
+    }
+}
