@@ -32,8 +32,8 @@ use Rattle.mission.specs.OnePlan.{one-plan}
 use Rattle.mission.specs.PointTwo.{EngineSound, EnginePointTwo}
 use Rattle.mission.specs.PointThree.{SomeReachesAll, BufferLong, PointThree}
 use Rattle.mission.specs.PointLaws.{refused-not-plan, same-sheet}
-use Rattle.engine.specs.Engine.{Plan, planOf}
-use Rattle.engine.specs.Found.{found-reaches, sheet-plannable, sheet-found}
+use Rattle.best_plan.specs.Plan.{Plan, planOf}
+use Rattle.best_plan.specs.laws.Found.{found-reaches, sheet-plannable, sheet-found}
 use Rattle.cases.specs.Worked.{lent}
 
 -- ---- sheets B and D

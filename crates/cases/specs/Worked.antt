@@ -16,7 +16,8 @@ use Rattle.network.specs.Network.{graphOf}
 use Rattle.mission.specs.Runs.{ReaderTables, readerTables, EngineTables, engineTables, run}
 use Rattle.plan_reader.specs.Reader.{fileFault, treeFault, readingOf}
 use Rattle.plan_reader.specs.Worked.{planA, planK, planL}
-use Rattle.engine.specs.Engine.{Plan, planOf, planningOf}
+use Rattle.best_plan.specs.Plan.{Plan, planOf}
+use Rattle.engine.specs.Engine.{planningOf}
 
 -- ---- what is lent
 

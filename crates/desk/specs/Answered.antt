@@ -34,9 +34,10 @@ use Rattle.planfile.specs.Format.{fileBytes, fileSize, listedArc, arcsTo}
 use Rattle.planfile.specs.FormatLaws.{length-file, arcs-read-first}
 use Rattle.mission.specs.Runs.{EngineTables, engineTables, EngineLong, Run, run}
 use Rattle.mission.specs.PointLaws.{refused-not-plan, same-plan}
-use Rattle.engine.specs.Engine.{Plan, planOf, searched, withFile, planningOf}
-use Rattle.engine.specs.Rules.{by-cases}
-use Rattle.engine.specs.Found.{PlanFound, sheet-found}
+use Rattle.best_plan.specs.Plan.{Plan, planOf, withFile}
+use Rattle.engine.specs.Engine.{searched, planningOf}
+use Rattle.engine.specs.laws.Rules.{by-cases}
+use Rattle.best_plan.specs.laws.Found.{PlanFound, sheet-found}
 use Rattle.desk_lines.specs.Lines.{refusalLine, firstLine, arcLine}
 use Rattle.desk.specs.Text.{refusalText, arcText, planText, deskArcs, deskNodes, deskCells, deskTree, deskFits, sheetText}
 use Rattle.desk_lines.specs.Stored.{Stored, stored-then}

@@ -14,7 +14,7 @@ use Rattle.graph.specs.Graph.{Graph}
 use Rattle.sheet.specs.Verdict.{verdict}
 use Rattle.opener.specs.Opening.{byVerdict, byOpening}
 use Rattle.network.specs.Network.{graphOf}
-use Rattle.engine.specs.Engine.{Plan, planOf}
+use Rattle.best_plan.specs.Plan.{Plan, planOf}
 use Rattle.desk_lines.specs.Lines.{ascii, refusalLine, firstLine, arcLine}
 
 -- a leg of the graph

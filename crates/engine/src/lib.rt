@@ -1,3 +1,2 @@
 // The engine: the planning entry point, from a sheet to the plan file.
-pub mod best;
 pub mod planning;

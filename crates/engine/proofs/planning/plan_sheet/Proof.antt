@@ -9,8 +9,8 @@ use Rattle.lent_tables.specs.Lengths.{cellsAndMarks}
 use Rattle.opener.specs.Opened.{opened-sheet, opened-refusal}
 use Rattle.network.specs.HeldSheet.{opened-held}
 use Rattle.mission.specs.Runs.{engineTables}
-use Rattle.engine.specs.Whole.{refusal-sent, whole-sent}
-use Rattle.engine.specs.PointThree.{cites-points}
+use Rattle.engine.specs.laws.Whole.{refusal-sent, whole-sent}
+use Rattle.engine.specs.laws.PointThree.{cites-points}
 use borrow.Author.Needs.{needs}
 use Rattle.engine.proofs.planning.plan_sheet.Statement.{statement}
 use Rattle.engine.proofs.planning.plan_sheet.Tie as tie
@@ -27,8 +27,8 @@ enum-known-opened c = search needs
 enum-known-opened-2 : tie.Need-enum-known-opened-2
 enum-known-opened-2 c = search needs
 
-plan-loaded-requires : tie.Need-plan-loaded-requires
-plan-loaded-requires c κs =
+plan-held-requires : tie.Need-plan-held-requires
+plan-held-requires c κs =
     let matched = c .before .before .before .before .before .before .before .before in
     let opened = matched .before .before .before .before .before .before .before .before .before .before in
     let a = opened .before .before .before .before .before .before .before .before .before .before .before .before .before .before .args in
@@ -91,7 +91,7 @@ returns-2 c =
     let bytes = known-bytes (now (a .sheet)) (λ i. omega (arith, opened .before .before .before .before .before .before .before .before .before .before .before .before .before .shared-slice-known .given i)) in
     let lent = engineTables t (now (a .cells)) (now (a .marks)) (now (a .buffer)) in
     cites-points (now (a .sheet)) bytes lent _ _
-    (whole-sent (now (a .sheet)) lent bytes (opened-sheet (now (a .sheet)) t _ f _ _ (opened .before .before .before .before .before .of-cells-and-marks .ensures) (opened .open-sheet .ensures) _ _ _ (matched .opened2 .given .1)) _ _ _ _ (planned .plan-loaded .ensures .0) (planned .plan-loaded .ensures .1 .0) (planned .plan-loaded .ensures .1 .1))
+    (whole-sent (now (a .sheet)) lent bytes (opened-sheet (now (a .sheet)) t _ f _ _ (opened .before .before .before .before .before .of-cells-and-marks .ensures) (opened .open-sheet .ensures) _ _ _ (matched .opened2 .given .1)) _ _ _ _ (planned .plan-held .ensures .0) (planned .plan-held .ensures .1 .0) (planned .plan-held .ensures .1 .1))
 
 pub plan-sheet-spec : {M : Type 1} → statement M
 plan-sheet-spec =
@@ -101,7 +101,7 @@ plan-sheet-spec =
     open-sheet-requires
     enum-known-opened
     enum-known-opened-2
-    plan-loaded-requires
+    plan-held-requires
     same-length
     same-length-2
     same-length-3
