@@ -25,16 +25,17 @@ use Rattle.graph.specs.laws.SubtreeParts.{total-weights}
 use Rattle.lent_tables.specs.Lengths.{marksOnly}
 use Rattle.network.specs.HeldSheet.{HeldSheet}
 use Rattle.planfile.specs.Format.{fileSize, rootIn, listedArc, arcsTo, arcsIn}
-use Rattle.plan_reader.specs.Reader.{fileFault, firstFailed, planFault, treeFault, orElse, answeredAs, answered, answerTo}
-use Rattle.plan_reader.specs.Reader.{marksOf, marksBy, marksAfter}
-use Rattle.plan_reader.specs.Tested.{openedOf}
-use Rattle.plan_reader.specs.Faults.{FileOk, file-passed, listed-on}
-use Rattle.plan_reader.specs.Returned.{FieldsOf, opened-fields, opened-fault}
-use Rattle.plan_reader.specs.Marks.{marks-size, marks-agree}
-use Rattle.plan_reader.specs.Marking.{linkGraph, Within}
-use Rattle.plan_reader.specs.Judging.{ArcsBelow, markedCount, markedTerminals, weightSum, judgedFault}
-use Rattle.plan_reader.specs.Judging.{tree-by-count, covering-by-marks, weights-sum}
-use Rattle.plan_reader.specs.declared.file.Opened.the-variants.{Fields, Fault}
+use Rattle.file_tests.specs.FileFaults.{fileFault, orElse}
+use Rattle.file_tests.specs.Tested.{openedOf}
+use Rattle.file_tests.specs.declared.Opened.the-variants.{Fields, Fault}
+use Rattle.file_tests.specs.laws.Faults.{FileOk, file-passed, listed-on}
+use Rattle.file_tests.specs.laws.Returned.{FieldsOf, opened-fields, opened-fault}
+use Rattle.reaching.specs.Marks.{marksOf, linkGraph, Within}
+use Rattle.reaching.specs.laws.MarkLaws.{marks-size, marks-agree}
+use Rattle.plan_tests.specs.PlanFaults.{firstFailed, planFault, treeFault, answeredAs}
+use Rattle.plan_tests.specs.ByMarks.{ArcsBelow, markedCount, markedTerminals, weightSum, judgedFault}
+use Rattle.plan_tests.specs.laws.Judging.{tree-by-count, covering-by-marks, weights-sum}
+use Rattle.plan_reader.specs.Reader.{answered, answerTo, marksBy, marksAfter}
 
 -- what the reading of the listed arcs asks for
 pub record ArcsReady (file : List ℕ) (root count k : ℕ) (t : SheetTables) (marks : List ℕ) : Type 0 where

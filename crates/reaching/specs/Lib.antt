@@ -1,0 +1,6 @@
+-- what a reader must believe: the marks, and the tables that the arcs stand in
+pub mod Marks
+-- what the code keeps while it marks
+pub mod Passes
+-- what the marks say, and that the passes come to them
+pub mod laws

@@ -1,0 +1,4 @@
+-- what the marks say
+pub mod MarkLaws
+-- one mark more, a pass, and pass after pass
+pub mod Marking
