@@ -8,7 +8,7 @@ use mathlib.Core.List.{List, [], _++_}
 use native.Mathlib.Omega.{arith}
 use lib.Dec.{T, eqb}
 use lib.ListN.{length, take, drop, length-take}
-use Rattle.limits.specs.Limits.{maxTerminals}
+use Rattle.limits.specs.Limits.{maxNodes, maxTerminals, maxArcs}
 use Rattle.lists.specs.Every.{Every}
 use Rattle.lists.specs.Listed.{listed, listed-every}
 use Rattle.lists.specs.Numbers.{length-values}
@@ -30,7 +30,7 @@ use Rattle.file_tests.specs.Tested.{openedOf}
 use Rattle.file_tests.specs.declared.Opened.the-variants.{Fields, Fault}
 use Rattle.file_tests.specs.laws.Faults.{FileOk, file-passed, listed-on}
 use Rattle.file_tests.specs.laws.Returned.{FieldsOf, opened-fields, opened-fault}
-use Rattle.reaching.specs.Marks.{marksOf, linkGraph, Within}
+use Rattle.reaching.specs.Marks.{linkGraph, Within, Below, marksOf}
 use Rattle.reaching.specs.laws.MarkLaws.{marks-size, marks-agree}
 use Rattle.plan_tests.specs.PlanFaults.{firstFailed, planFault, treeFault, answeredAs}
 use Rattle.plan_tests.specs.ByMarks.{ArcsBelow, markedCount, markedTerminals, weightSum, judgedFault}
@@ -40,8 +40,10 @@ use Rattle.plan_reader.specs.Reader.{answered, answerTo, marksBy, marksA
 -- what the reading of the listed arcs asks for
 pub record ArcsReady (file : List ℕ) (root count k : ℕ) (t : SheetTables) (marks : List ℕ) : Type 0 where
   pub root-on : root < length marks
+  pub few-nodes : length marks ≤ maxNodes
   pub whole : fileSize count ≤ length file
   pub within : Within (length marks) (arcsTo file count) (t .starts) (t .ends)
+  pub few-arcs : Below maxArcs (arcsTo file count)
   pub below : ArcsBelow file count (length (t .weights))
   pub landed : length marks ≤ length (t .landings)
   pub terminals : k ≤ maxTerminals
@@ -99,8 +101,10 @@ module _ (n k m : ℕ) (t : SheetTables) (marks file : List ℕ) (ready : HeldSh
     pub arcs-ready : ArcsReady file root count k t (take n marks)
     arcs-ready = record {
       root-on = omega (arith, root-below, part-size);
+      few-nodes = omega (arith, part-size, ready .nodes);
       whole = omega (arith, ap fileSize (fields .count-is), ok .head .size);
       within = subst (λ (x : ℕ). Within x L (t .starts) (t .ends)) (sym part-size) within;
+      few-arcs = λ e i. omega (arith, listed-below e i, ready .few-arcs);
       below = λ i l. omega (arith, below i l, ready .long .tables .weights);
       landed = omega (arith, part-size, ready .long .tables .landings);
       terminals = ready .terminals .1;

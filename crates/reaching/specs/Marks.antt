@@ -27,3 +27,7 @@ pub record Within (n : ℕ) (L starts ends : List ℕ) : Type 0 where
   pub in-ends : (e : ℕ) → T (listed e L) → e < length ends
   pub start-lt : (e : ℕ) → T (listed e L) → getD starts e 0 < n
   pub end-lt : (e : ℕ) → T (listed e L) → getD ends e 0 < n
+
+-- the listed arcs are below m
+abbrev pub Below : ℕ → List ℕ → Type 0
+Below m L = (e : ℕ) → T (listed e L) → e < m

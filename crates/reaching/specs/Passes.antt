@@ -5,7 +5,7 @@ use mathlib.Core.Path.{_≡_}
 use mathlib.Core.Bool.{Bool, true, false, not}
 use mathlib.Core.List.{List}
 use lib.Dec.{T, eqb}
-use lib.ListN.{length, getD}
+use lib.ListN.{length, getD, set}
 use Rattle.lists.specs.Count.{bit}
 use Rattle.lists.specs.Listed.{listed}
 use Rattle.lists.specs.Sums.{sumTo}
@@ -41,6 +41,11 @@ Progress G L before after false = (after ≡ before) × Settled G L after
 pub record Carried (G : Graph) (L before after : List ℕ) : Type 0 where
   pub size : length after ≡ length before
   pub carries : (r : ℕ) → Marking G L r before → Marking G L r after
+
+-- what an arc gives, with whether its end was not marked before
+abbrev pub ArcMarks : (start end : ℕ) (before after : List ℕ) → Bool → Type 0
+ArcMarks start end before after true = Marked before start × (Marked before end → ⊥) × (after ≡ set before end 1)
+ArcMarks start end before after false = (after ≡ before) × (Marked before start → Marked before end)
 
 -- a pass over the listed arcs that has gone over `seen`, with the answer so far whether it marked a node
 pub record Passing (G : Graph) (L seen before after : List ℕ) (marked : Bool) : Type 0 where

@@ -2,3 +2,5 @@
 pub mod MarkLaws
 -- one mark more, a pass, and pass after pass
 pub mod Marking
+-- the rows
+pub mod RowLaws

@@ -4,7 +4,7 @@
 use Prim.Native.Nat.{ℕ, _+_, _≤_, _<_}
 use mathlib.Core.Path.{_≡_, refl, sym, ap, _∙_, subst}
 use mathlib.Core.Logic.{_≢_, ⊎-elim}
-use mathlib.Core.Bool.{Bool, true, false, not}
+use mathlib.Core.Bool.{Bool, true, false, not, _||_}
 use mathlib.Core.List.{List, [], _∷_, _++_, map}
 use native.Mathlib.Numerals.{add-one}
 use native.Mathlib.Omega.{arith}
@@ -16,15 +16,15 @@ use Rattle.lists.specs.Tests.{by-fact, by-eq, not-both}
 use Rattle.lists.specs.Count.{bit}
 use Rattle.lists.specs.Listed.{listed, listed-only, listed-append}
 use Rattle.lists.specs.Numbers.{numbers, values-more}
-use Rattle.lists.specs.Sums.{sumTo, sumTo-lt}
+use Rattle.lists.specs.Sums.{sumTo-lt}
 use Rattle.lent_tables.specs.SheetTables.{arcsAlone}
 use Rattle.graph.specs.Graph.{Graph}
-use Rattle.graph.specs.HeldGraph.{graphIn, start-in, end-in}
+use Rattle.graph.specs.HeldGraph.{start-in, end-in}
 use Rattle.graph.specs.Paths.{DirectedPath, isReached}
 use Rattle.graph.specs.laws.Reaching.{path-same, path-then, path-carries}
 use Rattle.graph.specs.laws.ReachTest.{reached-path, path-reached}
 use Rattle.reaching.specs.Marks.{linkGraph, Within, marksOf}
-use Rattle.reaching.specs.Passes.{Marked, Marking, Settled, unmarked, Progress, Carried, Passing, Passed, Completed}
+use Rattle.reaching.specs.Passes.{Marked, Marking, Settled, unmarked, Progress, ArcMarks, Carried, Passing, Passed, Completed}
 use Rattle.reaching.specs.laws.MarkLaws.{marks-size, mark-at}
 
 -- ---- one mark more
@@ -133,6 +133,21 @@ progress-le : (G : Graph) (seen before after : List ℕ) (b : Bool) → Progress
 progress-le G seen before after true p = omega (arith, p)
 progress-le G seen before after false p = omega (arith, ap (unmarked (G .nodes)) (p .0))
 
+-- an answer, or another one
+or-true : (b : Bool) → (b || true) ≡ true
+or-true true = refl
+or-true false = refl
+
+or-false : (b : Bool) → (b || false) ≡ b
+or-false true = refl
+or-false false = refl
+
+pub or-taken : (b : Bool) {r marked : Bool} → r ≡ true → marked ≡ true → marked ≡ (b || r)
+or-taken b e f = f ∙ sym (ap (λ (x : Bool). b || x) e ∙ or-true b)
+
+pub or-left : (b : Bool) {r marked : Bool} → r ≡ false → marked ≡ b → marked ≡ (b || r)
+or-left b e f = f ∙ sym (ap (λ (x : Bool). b || x) e ∙ or-false b)
+
 -- an arc more, which leads from no marked node to one that is not marked
 settled-more : (G : Graph) (L marks : List ℕ) (e : ℕ) → (Marked marks (G .start e) → Marked marks (G .end e)) → Settled G L marks
     → Settled G (L ++ (e ∷ [])) marks
@@ -145,56 +160,57 @@ progress-more : (G : Graph) (seen before after : List ℕ) (b : Bool) (e : ℕ) 
 progress-more G seen before after true e at-e p = p
 progress-more G seen before after false e at-e p = (p .0, settled-more G seen after e at-e (p .1))
 
-module _ (n : ℕ) (L starts ends : List ℕ) (within : Within n L starts ends) (before marks : List ℕ) (b : Bool) (e : ℕ) (t : T (listed e L)) where
+module _ (n : ℕ) (L starts ends : List ℕ) (within : Within n L starts ends) (e : ℕ) (t : T (listed e L)) where
+  abbrev G : Graph
+  G = linkGraph n starts ends
+
   -- the start and the end of a listed arc, as code reads them
-  arc-start : linkGraph n starts ends .start e ≡ getD starts e 0
+  arc-start : G .start e ≡ getD starts e 0
   arc-start = start-in n 0 (length starts) (arcsAlone starts ends []) e (within .in-starts e t)
 
-  arc-end : linkGraph n starts ends .end e ≡ getD ends e 0
+  arc-end : G .end e ≡ getD ends e 0
   arc-end = end-in n 0 (length starts) (arcsAlone starts ends []) e (within .in-starts e t)
 
-  -- the arc marks its end
-  pub passing-marks : (seen more after : List ℕ) (marked : Bool) → length before ≡ n → Passing (linkGraph n starts ends) L seen before marks b
-      → Marked marks (getD starts e 0) → getD marks (getD ends e 0) 0 ≢ 1 → after ≡ set marks (getD ends e 0) 1 → marked ≡ true
-      → Passing (linkGraph n starts ends) L more before after marked
-  passing-marks seen more after marked size pass s ne q answer =
-      subst (λ (l : List ℕ). Passing G L more before l marked) (sym (q ∙ ap (λ (x : ℕ). set marks x 1) (sym arc-end)))
-      (subst (Passing G L more before (set marks (G .end e) 1)) (sym answer) record {
-        carried = record {
-          size = length-set marks (G .end e) 1 ∙ pass .carried .size;
-          carries = λ r m. marking-arc G L r marks (pass .carried .carries r m) e t from to (ap (λ (x : ℕ). getD marks x 0) arc-start ∙ s);
-        };
-        progress = omega (arith, fewer, progress-le G seen before marks b (pass .progress));
+  arc-to : G .end e < n
+  arc-to = omega (arith, arc-end, within .end-lt e t)
+
+  marked-at : (marks : List ℕ) {v u : ℕ} → v ≡ u → Marked marks u → Marked marks v
+  marked-at marks same m = ap (λ (x : ℕ). getD marks x 0) same ∙ m
+
+  -- what a listed arc gives carries every marking
+  pub carried-arc : (before marks after : List ℕ) (r : Bool) → Carried G L before marks → ArcMarks (getD starts e 0) (getD ends e 0) marks after r
+      → Carried G L before after
+  carried-arc before marks after true c (s, _, q) =
+      subst (Carried G L before) (sym (q ∙ ap (λ (x : ℕ). set marks x 1) (sym arc-end))) (record {
+        size = length-set marks (G .end e) 1 ∙ c .size;
+        carries = λ r m. marking-arc G L r marks (c .carries r m) e t (omega (arith, arc-start, within .start-lt e t)) arc-to (marked-at marks arc-start s);
       })
+  carried-arc before marks after false c (same, _) = subst (Carried G L before) (sym same) c
+
+  -- the pass has gone over one arc more
+  progress-arc : (seen before marks after : List ℕ) (b r : Bool) → length marks ≡ n → Progress G seen before marks b
+      → ArcMarks (getD starts e 0) (getD ends e 0) marks after r → Progress G (seen ++ (e ∷ [])) before after (b || r)
+  progress-arc seen before marks after b true size p (s, ne, q) =
+      subst (Progress G (seen ++ (e ∷ [])) before after) (sym (or-true b)) (omega (arith, fewer, progress-le G seen before marks b p))
     where
-      G : Graph
-      G = linkGraph n starts ends
+      fewer : unmarked n after < unmarked n marks
+      fewer = subst (λ (l : List ℕ). unmarked n l < unmarked n marks) (sym (q ∙ ap (λ (x : ℕ). set marks x 1) (sym arc-end)))
+          (unmarked-falls marks (G .end e) (omega (arith, arc-to, size)) n arc-to (λ m. ne (marked-at marks (sym arc-end) m)))
+  progress-arc seen before marks after b false size p (same, h) =
+      subst (Progress G (seen ++ (e ∷ [])) before after) (sym (or-false b))
+      (subst (λ (l : List ℕ). Progress G (seen ++ (e ∷ [])) before l b) (sym same)
+      (progress-more G seen before marks b e (λ m. marked-at marks arc-end (h (marked-at marks (sym arc-start) m))) p))
 
-      from : G .start e < n
-      from = omega (arith, arc-start, within .start-lt e t)
-
-      to : G .end e < n
-      to = omega (arith, arc-end, within .end-lt e t)
-
-      fewer : unmarked n (set marks (G .end e) 1) < unmarked n marks
-      fewer = unmarked-falls marks (G .end e) (omega (arith, to, size, pass .carried .size)) n to (λ m. ne (ap (λ (x : ℕ). getD marks x 0) (sym arc-end) ∙ m))
-
-  -- it leads from no marked node to one that is not marked, so it changes nothing
-  pub passing-keeps : (f : ℕ → ℕ) (i : ℕ) (after : List ℕ) (marked : Bool) → e ≡ f i
-      → Passing (linkGraph n starts ends) L (map f (numbers 0 i)) before marks b → (Marked marks (getD starts e 0) → Marked marks (getD ends e 0))
-      → after ≡ marks → marked ≡ b → Passing (linkGraph n starts ends) L (map f (numbers 0 (i + 1))) before after marked
-  passing-keeps f i after marked at pass h same answer =
-      subst (λ (l : List ℕ). Passing G L (map f (numbers 0 (i + 1))) before l marked) (sym same)
-      (subst (Passing G L (map f (numbers 0 (i + 1))) before marks) (sym answer)
-      (subst (λ (l : List ℕ). Passing G L l before marks b) (sym more) record {
-        carried = pass .carried;
-        progress = progress-more G (map f (numbers 0 i)) before marks b e
-            (λ m. ap (λ (x : ℕ). getD marks x 0) arc-end ∙ h (ap (λ (x : ℕ). getD marks x 0) (sym arc-start) ∙ m)) (pass .progress);
+  pub passing-arc : (f : ℕ → ℕ) (i : ℕ) (before marks after : List ℕ) (b r marked : Bool) → length before ≡ n → e ≡ f i
+      → Passing G L (map f (numbers 0 i)) before marks b → ArcMarks (getD starts e 0) (getD ends e 0) marks after r → marked ≡ (b || r)
+      → Passing G L (map f (numbers 0 (i + 1))) before after marked
+  passing-arc f i before marks after b r marked size at pass given answer =
+      subst (Passing G L (map f (numbers 0 (i + 1))) before after) (sym answer)
+      (subst (λ (l : List ℕ). Passing G L l before after (b || r)) (sym more) (record {
+        carried = carried-arc before marks after r (pass .carried) given;
+        progress = progress-arc (map f (numbers 0 i)) before marks after b r (pass .carried .size ∙ size) (pass .progress) given;
       }))
     where
-      G : Graph
-      G = linkGraph n starts ends
-
       more : map f (numbers 0 (i + 1)) ≡ map f (numbers 0 i) ++ (e ∷ [])
       more = ap (λ (m : ℕ). map f (numbers 0 m)) (add-one i) ∙ values-more f i ∙ ap (λ (x : ℕ). map f (numbers 0 i) ++ (x ∷ [])) (sym at)
 
@@ -226,14 +242,22 @@ module _ (L starts ends before marks after : List ℕ) (c : Carried (linkGraph (
       let (_, settled) = subst (Progress (linkGraph (length before) starts ends) L marks after) answer (same-nodes b pass .progress) in
       marking-settled (linkGraph (length before) starts ends) L r after (pass-carries b pass .carries r m) settled
 
+-- one marking after another
+pub carried-then : (L starts ends before marks after : List ℕ) → Carried (linkGraph (length before) starts ends) L before marks
+    → Carried (linkGraph (length marks) starts ends) L marks after → Carried (linkGraph (length before) starts ends) L before after
+carried-then L starts ends before marks after c d =
+    let d' = subst (λ (n : ℕ). Carried (linkGraph n starts ends) L marks after) (c .size) d in
+    record { size = d' .size ∙ c .size; carries = λ r m. d' .carries r (c .carries r m) }
+
 -- from the root alone
 module _ (marks none : List ℕ) (r : ℕ) (cleared : none ≡ replicate (length marks) 0) where
   pub root-size : length (set none r 1) ≡ length marks
   root-size = length-set none r 1 ∙ ap length cleared ∙ length-replicate (length marks) 0
 
-  pub root-completes : (L starts ends after : List ℕ) → r < length marks → Completed (linkGraph (length (set none r 1)) starts ends) L (set none r 1) after
-      → after ≡ marksOf (linkGraph (length marks) starts ends) L r
-  root-completes L starts ends after on done =
+  pub root-completes : (L starts ends mid after : List ℕ) → r < length marks → Carried (linkGraph (length (set none r 1)) starts ends) L (set none r 1) mid
+      → Completed (linkGraph (length mid) starts ends) L mid after → after ≡ marksOf (linkGraph (length marks) starts ends) L r
+  root-completes L starts ends mid after on carried done =
       let G : Graph = linkGraph (length marks) starts ends in
-      subst (λ (n : ℕ). Completed (linkGraph n starts ends) L (set none r 1) after) root-size done r
-      (subst (λ (l : List ℕ). Marking G L r (set l r 1)) (sym cleared) (marking-start G L r on))
+      let c = subst (λ (n : ℕ). Carried (linkGraph n starts ends) L (set none r 1) mid) root-size carried in
+      subst (λ (n : ℕ). Completed (linkGraph n starts ends) L mid after) (carried .size ∙ root-size) done r
+      (c .carries r (subst (λ (l : List ℕ). Marking G L r (set l r 1)) (sym cleared) (marking-start G L r on)))

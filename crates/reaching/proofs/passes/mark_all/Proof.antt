@@ -1,4 +1,4 @@
--- `reaching::mark_all` meets its contract. The loop's invariant: a marking of any root is still one. The measure is the number of
+-- `reaching::passes::mark_all` meets its contract. The loop's invariant: a marking of any root is still one. The measure is the number of
 -- nodes that are not marked.
 -- Assumes nothing.
 use lib.ListN.{length}
@@ -9,8 +9,8 @@ use Rattle.planfile.specs.Format.{arcsTo}
 use Rattle.reaching.specs.Marks.{linkGraph}
 use Rattle.reaching.specs.Passes.{Carried, unmarked}
 use Rattle.reaching.specs.laws.Marking.{carried-none, same-within, pass-carries, pass-falls, pass-completes}
-use Rattle.reaching.proofs.mark_all.Statement.{statement}
-use Rattle.reaching.proofs.mark_all.Tie as tie
+use Rattle.reaching.proofs.passes.mark_all.Statement.{statement}
+use Rattle.reaching.proofs.passes.mark_all.Tie as tie
 
 abbrev Inv-loop : tie.InvT-loop
 Inv-loop file count starts ends marks₀ marks = Carried (linkGraph (length marks₀) starts ends) (arcsTo file count) marks₀ marks
