@@ -14,7 +14,9 @@ use Rattle.lent_tables.specs.SheetTables.{sheetTables}
 use Rattle.loader.specs.Loaded.{loaded}
 use Rattle.network.specs.Network.{graphOf}
 use Rattle.mission.specs.Runs.{ReaderTables, readerTables, EngineTables, engineTables, run}
-use Rattle.plan_reader.specs.Reader.{fileFault, treeFault, readingOf}
+use Rattle.file_tests.specs.FileFaults.{fileFault}
+use Rattle.plan_tests.specs.PlanFaults.{treeFault}
+use Rattle.plan_reader.specs.Reader.{readingOf}
 use Rattle.plan_reader.specs.Worked.{planA, planK, planL}
 use Rattle.best_plan.specs.Plan.{Plan, planOf}
 use Rattle.engine.specs.Engine.{planningOf}

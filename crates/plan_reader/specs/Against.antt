@@ -8,7 +8,7 @@ use mathlib.Core.List.{List, [], _++_}
 use native.Mathlib.Omega.{arith}
 use lib.Dec.{T, eqb}
 use lib.ListN.{length, take, drop, length-take}
-use Rattle.limits.specs.Limits.{maxTerminals}
+use Rattle.limits.specs.Limits.{maxNodes, maxTerminals, maxArcs}
 use Rattle.lists.specs.Every.{Every}
 use Rattle.lists.specs.Listed.{listed, listed-every}
 use Rattle.lists.specs.Numbers.{length-values}
@@ -25,22 +25,25 @@ use Rattle.graph.specs.laws.SubtreeParts.{total-weights}
 use Rattle.lent_tables.specs.Lengths.{marksOnly}
 use Rattle.network.specs.HeldSheet.{HeldSheet}
 use Rattle.planfile.specs.Format.{fileSize, rootIn, listedArc, arcsTo, arcsIn}
-use Rattle.plan_reader.specs.Reader.{fileFault, firstFailed, planFault, treeFault, orElse, answeredAs, answered, answerTo}
-use Rattle.plan_reader.specs.Reader.{marksOf, marksBy, marksAfter}
-use Rattle.plan_reader.specs.Tested.{openedOf}
-use Rattle.plan_reader.specs.Faults.{FileOk, file-passed, listed-on}
-use Rattle.plan_reader.specs.Returned.{FieldsOf, opened-fields, opened-fault}
-use Rattle.plan_reader.specs.Marks.{marks-size, marks-agree}
-use Rattle.plan_reader.specs.Marking.{linkGraph, Within}
-use Rattle.plan_reader.specs.Judging.{ArcsBelow, markedCount, markedTerminals, weightSum, judgedFault}
-use Rattle.plan_reader.specs.Judging.{tree-by-count, covering-by-marks, weights-sum}
-use Rattle.plan_reader.specs.declared.file.Opened.the-variants.{Fields, Fault}
+use Rattle.file_tests.specs.FileFaults.{fileFault, orElse}
+use Rattle.file_tests.specs.Tested.{openedOf}
+use Rattle.file_tests.specs.declared.Opened.the-variants.{Fields, Fault}
+use Rattle.file_tests.specs.laws.Faults.{FileOk, file-passed, listed-on}
+use Rattle.file_tests.specs.laws.Returned.{FieldsOf, opened-fields, opened-fault}
+use Rattle.reaching.specs.Marks.{linkGraph, Within, Below, marksOf}
+use Rattle.reaching.specs.laws.MarkLaws.{marks-size, marks-agree}
+use Rattle.plan_tests.specs.PlanFaults.{firstFailed, planFault, treeFault, answeredAs}
+use Rattle.plan_tests.specs.ByMarks.{ArcsBelow, markedCount, markedTerminals, weightSum, judgedFault}
+use Rattle.plan_tests.specs.laws.Judging.{tree-by-count, covering-by-marks, weights-sum}
+use Rattle.plan_reader.specs.Reader.{answered, answerTo, marksBy, marksAfter}
 
 -- what the reading of the listed arcs asks for
 pub record ArcsReady (file : List ℕ) (root count k : ℕ) (t : SheetTables) (marks : List ℕ) : Type 0 where
   pub root-on : root < length marks
+  pub few-nodes : length marks ≤ maxNodes
   pub whole : fileSize count ≤ length file
   pub within : Within (length marks) (arcsTo file count) (t .starts) (t .ends)
+  pub few-arcs : Below maxArcs (arcsTo file count)
   pub below : ArcsBelow file count (length (t .weights))
   pub landed : length marks ≤ length (t .landings)
   pub terminals : k ≤ maxTerminals
@@ -98,8 +101,10 @@ module _ (n k m : ℕ) (t : SheetTables) (marks file : List ℕ) (ready : HeldSh
     pub arcs-ready : ArcsReady file root count k t (take n marks)
     arcs-ready = record {
       root-on = omega (arith, root-below, part-size);
+      few-nodes = omega (arith, part-size, ready .nodes);
       whole = omega (arith, ap fileSize (fields .count-is), ok .head .size);
       within = subst (λ (x : ℕ). Within x L (t .starts) (t .ends)) (sym part-size) within;
+      few-arcs = λ e i. omega (arith, listed-below e i, ready .few-arcs);
       below = λ i l. omega (arith, below i l, ready .long .tables .weights);
       landed = omega (arith, part-size, ready .long .tables .landings);
       terminals = ready .terminals .1;

@@ -36,9 +36,12 @@ use Rattle.mission.specs.Runs.{ReaderTables, readerFurther, ReaderLong, GoodWit
 use Rattle.mission.specs.PointOne.{PlanOrRefusal, ReaderNumber, MarksReached, AsRead, ReaderSafe, ReaderAnswers, ReaderPointOne}
 use Rattle.mission.specs.PointTwo.{AcceptsPlans}
 use Rattle.mission.specs.PointLaws.{numberIn, same-number, plan-not-refused, refused-not-plan, sheet-number, sheet-refusal, first-due}
-use Rattle.plan_reader.specs.Reader.{headFault, arcFault, isFault, faultAt, arcsFault, orElse, fileFault, firstFailed, treeFault, answered}
-use Rattle.plan_reader.specs.Reader.{marksOf, marksBy, readAgainst, readingOf}
-use Rattle.plan_reader.specs.Marks.{MarksSay, marks-say, marks-size}
+use Rattle.file_tests.specs.FileFaults.{headFault, arcFault, isFault, faultAt, arcsFault, orElse, fileFault}
+use Rattle.reaching.specs.Marks.{marksOf}
+use Rattle.reaching.specs.laws.MarkLaws.{marks-size}
+use Rattle.plan_tests.specs.PlanFaults.{firstFailed, treeFault}
+use Rattle.plan_reader.specs.Reader.{answered, marksBy, readAgainst, readingOf}
+use Rattle.plan_reader.specs.Marks.{MarksSay, marks-say}
 use Rattle.plan_reader.specs.Rules.{given, filledWith, reachedMarks, file-refused, plan-refused, plan-accepted}
 use Rattle.plan_reader.specs.PointTwo.{point-two}
 

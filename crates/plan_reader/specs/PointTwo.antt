@@ -34,9 +34,12 @@ use Rattle.planfile.specs.Format.{rootIn, totalIn, countIn, listedArc, arcsIn}
 use Rattle.planfile.specs.Encoded.{WellFormed, FieldsAre, fields-encoding, encoding-fields}
 use Rattle.mission.specs.Runs.{ReaderTables, readerFurther, ReaderLong, Run}
 use Rattle.mission.specs.PointTwo.{EncodesPlan, ReaderPointTwo}
-use Rattle.plan_reader.specs.Reader.{fileFault, orElse, planFault, treeFault, answered, answerTo, readingOf}
-use Rattle.plan_reader.specs.Faults.{some-fault, FileOk, file-passes, file-passed, listed-on, failed-none, none-failed}
-use Rattle.plan_reader.specs.Returned.{FieldsOf}
+use Rattle.file_tests.specs.FileFaults.{fileFault, orElse}
+use Rattle.file_tests.specs.laws.Faults.{some-fault, FileOk, file-passes, file-passed, listed-on}
+use Rattle.file_tests.specs.laws.Returned.{FieldsOf}
+use Rattle.plan_tests.specs.PlanFaults.{planFault, treeFault}
+use Rattle.plan_tests.specs.laws.FirstFailed.{failed-none, none-failed}
+use Rattle.plan_reader.specs.Reader.{answered, answerTo, readingOf}
 use Rattle.plan_reader.specs.Rules.{given, file-read}
 
 -- ---- the answer

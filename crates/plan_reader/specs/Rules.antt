@@ -20,7 +20,10 @@ use Rattle.opener.specs.Cases.{opening-bad, opening-short, opening-good}
 use Rattle.network.specs.Network.{graphOf}
 use Rattle.planfile.specs.Format.{rootIn, totalIn, countIn, arcsIn}
 use Rattle.mission.specs.Runs.{ReaderTables, readerTables, readerFurther, ReaderLong, Run, run, runOpened}
-use Rattle.plan_reader.specs.Reader.{fileFault, treeFault, orElse, answered, marksOf, marksBy, readAgainst, readingOf}
+use Rattle.file_tests.specs.FileFaults.{fileFault, orElse}
+use Rattle.reaching.specs.Marks.{marksOf}
+use Rattle.plan_tests.specs.PlanFaults.{treeFault}
+use Rattle.plan_reader.specs.Reader.{answered, marksBy, readAgainst, readingOf}
 
 module _ (sheet file : List ℕ) (t : ReaderTables) where
   -- the run of an opening

@@ -12,7 +12,9 @@ use Rattle.lent_tables.specs.SheetTables.{sheetTables}
 use Rattle.loader.specs.Loaded.{loaded}
 use Rattle.planfile.specs.Format.{encoding}
 use Rattle.mission.specs.Runs.{ReaderTables, readerTables, run}
-use Rattle.plan_reader.specs.Reader.{fileFault, treeFault, readingOf}
+use Rattle.file_tests.specs.FileFaults.{fileFault}
+use Rattle.plan_tests.specs.PlanFaults.{treeFault}
+use Rattle.plan_reader.specs.Reader.{readingOf}
 
 -- A's plan file in document 01's hexadecimal: 504E 0000 0000000A 0003 4C47 0000 4C47 0001 4C47 0002
 abbrev pub planA : List ℕ

@@ -1,13 +1,13 @@
 // The plan reader: the sheet is opened, and the file is read against the tables that hold it.
-use crate::file::Opened;
-use crate::file::open_file;
-use crate::plan::test_plan;
-use crate::reach::reach;
 use answer::Answer;
 use answer::Refusal;
+use file_tests::Opened;
+use file_tests::open_file;
 use lent_tables::FurtherLengths;
 use opener::Loaded;
 use opener::open_sheet;
+use plan_tests::test_plan;
+use reaching::reach;
 ghost use mathlib.Core.Path.{_≡_};
 ghost use lib.ListN.{length};
 ghost use Rattle.answer.specs.Stated.{stated};
@@ -19,9 +19,10 @@ ghost use Rattle.mission.specs.Runs.{readerTables, run};
 ghost use Rattle.mission.specs.PointOne.{ReaderAnswers};
 ghost use Rattle.mission.specs.PointTwo.{AcceptsPlans};
 ghost use Rattle.planfile.specs.Format.{arcsTo};
-ghost use Rattle.plan_reader.specs.Reader.{answeredAs, answerTo, marksOf, marksAfter, readingOf};
-ghost use Rattle.plan_reader.specs.Marking.{linkGraph};
-ghost use Rattle.plan_reader.specs.Judging.{judgedFault};
+ghost use Rattle.reaching.specs.Marks.{linkGraph, marksOf};
+ghost use Rattle.plan_tests.specs.PlanFaults.{answeredAs};
+ghost use Rattle.plan_tests.specs.ByMarks.{judgedFault};
+ghost use Rattle.plan_reader.specs.Reader.{answerTo, marksAfter, readingOf};
 ghost use Rattle.plan_reader.specs.Against.{ArcsReady};
 
 // The legs of a file that has no fault by itself: the sites that they reach are marked, and the plan is tested. The marks have one entry
