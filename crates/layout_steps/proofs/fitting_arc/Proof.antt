@@ -1,4 +1,4 @@
--- `layout::steps::fitting_arc` meets its contract. The loop's invariant: no leg so far fits. The measure is the number of legs left.
+-- `layout_steps::fitting_arc` meets its contract. The loop's invariant: no leg so far fits. The measure is the number of legs left.
 -- Assumes nothing.
 use Prim.Native.Nat.{ℕ, _≤_, _<_, _-_}
 use mathlib.Core.Bool.{not}
@@ -7,10 +7,10 @@ use lib.Dec.{T}
 use denote.Ref.{now}
 use borrow.Author.Needs.{needs}
 use Rattle.lent_tables.specs.SheetTables.{arcsAlone}
-use Rattle.layout.specs.Steps.{fitsIn}
-use Rattle.layout.specs.Tests.{fits-at, found-at, found-nothing, not-yet}
-use Rattle.layout.proofs.steps.fitting_arc.Statement.{statement}
-use Rattle.layout.proofs.steps.fitting_arc.Tie as tie
+use Rattle.layout_steps.specs.Steps.{fitsIn}
+use Rattle.layout_steps.specs.laws.Tests.{fits-at, found-at, found-nothing, not-yet}
+use Rattle.layout_steps.proofs.fitting_arc.Statement.{statement}
+use Rattle.layout_steps.proofs.fitting_arc.Tie as tie
 
 abbrev Inv-loop : tie.InvT-loop
 Inv-loop starts ends weights cells k arcs v w cost e₀ e = (e ≤ arcs) × ((j : ℕ) → j < e → T (not (fitsIn k arcs (arcsAlone starts ends weights) cells v (w .0) j)))

@@ -1,13 +1,13 @@
--- `layout::steps::is_done` meets its contract. Each return has the tests that led to it.
+-- `layout_steps::is_done` meets its contract. Each return has the tests that led to it.
 -- Assumes nothing.
 use mathlib.Core.Path.{sym, ap, _∙_}
 use lib.ListN.{getD}
 use denote.Ref.{now}
 use borrow.Author.Needs.{needs}
 use Rattle.subset.specs.Sets.{isPart}
-use Rattle.layout.specs.Tests.{done-empty, done-many, done-one}
-use Rattle.layout.proofs.steps.is_done.Statement.{statement}
-use Rattle.layout.proofs.steps.is_done.Tie as tie
+use Rattle.layout_steps.specs.laws.Tests.{done-empty, done-many, done-one}
+use Rattle.layout_steps.proofs.is_done.Statement.{statement}
+use Rattle.layout_steps.proofs.is_done.Tie as tie
 
 returns : tie.Need-returns
 returns c =

@@ -26,8 +26,8 @@ use Rattle.graph.specs.HeldGraph.{graphIn, landings-in}
 use Rattle.graph.specs.Layout.{isDone}
 use Rattle.graph.specs.laws.LayoutRule.{done-facts, facts-done}
 use Rattle.cost_table.specs.Cells.{cellIn}
-use Rattle.layout.specs.Steps.{doneAt, valuesFit, fitsIn, splitsIn, foundAs}
-use Rattle.layout.specs.declared.steps.Found.the-variants.{At, Nothing}
+use Rattle.layout_steps.specs.Steps.{doneAt, valuesFit, fitsIn, splitsIn, foundAs}
+use Rattle.layout_steps.specs.declared.Found.the-variants.{At, Nothing}
 
 -- ---- nothing is added
 

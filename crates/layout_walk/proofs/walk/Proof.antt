@@ -1,4 +1,4 @@
--- `layout::walk::walk` meets its contract. The loop's invariant: the legs listed so far and those of the site are the legs of v. The measure
+-- `layout_walk::walk` meets its contract. The loop's invariant: the legs listed so far and those of the site are the legs of v. The measure
 -- is the size of the set combined with the cell's cost: it falls with every leg.
 -- Assumes nothing.
 use native.Mathlib.Nat.{lt-of-lt-of-le}
@@ -6,12 +6,12 @@ use native.Mathlib.Omega.{arith}
 use borrow.Author.Needs.{needs}
 use Rattle.lent_tables.specs.SheetTables.{sheetTables}
 use Rattle.graph.specs.HeldGraph.{graphIn}
-use Rattle.layout.specs.Walk.{Walked}
-use Rattle.layout.specs.Laying.{load}
-use Rattle.layout.specs.Walking.{walked-none, walked-length}
-use Rattle.layout.specs.FollowSplit.{node-held, arcs-held, walk-ends, arc-held, arc-fits, end-walked, end-falls, walk-stops}
-use Rattle.layout.proofs.walk.walk.Statement.{statement}
-use Rattle.layout.proofs.walk.walk.Tie as tie
+use Rattle.layout_walk.specs.laws.Walk.{Walked}
+use Rattle.layout_walk.specs.laws.Arcs.{load}
+use Rattle.layout_walk.specs.laws.Walking.{walked-none, walked-length}
+use Rattle.layout_walk.specs.laws.Following.{node-held, arcs-held, walk-ends, arc-held, arc-fits, end-walked, end-falls, walk-stops}
+use Rattle.layout_walk.proofs.walk.Statement.{statement}
+use Rattle.layout_walk.proofs.walk.Tie as tie
 
 abbrev Inv-loop : tie.InvT-loop
 Inv-loop starts ends weights landings cells n k arcs v w out₀ at node₀ place₀ out node place =

@@ -13,9 +13,9 @@ use Rattle.lists.specs.Find.{first}
 use Rattle.graph.specs.Graph.{Graph}
 use Rattle.graph.specs.Layout.{isDone, fits}
 use Rattle.graph.specs.Theorems.{following-falls}
-use Rattle.layout.specs.Plan.{cellsFor, laid, Finished, Placed, Stored}
-use Rattle.layout.specs.Walk.{Walked, Stopped}
-use Rattle.layout.specs.Laying.{load, stored-nothing, stored-one, stored-both, stored-length, nothing-laid, arc-laid, arc-placed}
+use Rattle.layout_walk.specs.Plan.{cellsFor, laid, Finished}
+use Rattle.layout_walk.specs.laws.Walk.{Placed, Stored, Walked, Stopped}
+use Rattle.layout_walk.specs.laws.Arcs.{load, stored-nothing, stored-one, stored-both, stored-length, nothing-laid, arc-laid, arc-placed}
 
 -- before the first arc
 pub walked-none : (G : Graph) (cells : List ℕ) (v w at : ℕ) (out : List ℕ) → Placed G cells v w at (length out) → Walked G cells v w at out out v at

@@ -1,20 +1,16 @@
--- The arcs of a plan, as they are listed in a table from a place on, and what the laying out of one rests on (document 01, "Laying out a plan").
+-- The arcs of a plan, and what the laying out of one rests on (document 01, "Laying out a plan").
 -- Assumes nothing.
-use Prim.Native.Nat.{ℕ, _+_, _*_, _^_, _≤_, _<_}
-use mathlib.Core.Path.{_≡_}
-use mathlib.Core.Bool.{not}
+use Prim.Native.Nat.{ℕ, _*_, _^_, _≤_}
 use mathlib.Core.Option.{none}
 use mathlib.Core.List.{List}
-use lib.Dec.{T}
 use lib.ListN.{length}
 use lib.Seq.{sets}
 use Rattle.limits.specs.Limits.{maxTerminals, noCost}
-use Rattle.lists.specs.Find.{first}
 use Rattle.lent_tables.specs.SheetTables.{SheetTables, Long}
 use Rattle.graph.specs.Graph.{Graph, Sound}
 use Rattle.graph.specs.HeldGraph.{graphIn}
 use Rattle.graph.specs.LeastTotals.{IsCostTable, Room}
-use Rattle.graph.specs.Layout.{isDone, fits, layout}
+use Rattle.graph.specs.Layout.{layout}
 use Rattle.cost_table.specs.Cells.{cellIn}
 
 -- the cells of a graph's nodes and sets in a list
@@ -38,20 +34,3 @@ pub record Ready (n k m : ℕ) (t : SheetTables) (cells : List ℕ) : Type 0 whe
   pub long : Long n m t
   pub long-cells : n * 2 ^ k ≤ length cells
   pub finished : Finished (graphIn n k m t) cells
-
--- v is a node and w a set with a finite cell, and their arcs have room between the place `at` and the end of a table
-pub record Placed (G : Graph) (cells : List ℕ) (v w at size : ℕ) : Type 0 where
-  pub node : v < G .nodes
-  pub set : w < 2 ^ G .terminals
-  pub finite : cellsFor G cells v w < noCost
-  pub long : at + length (laid G cells v w) ≤ size
-
--- something is to be added at v with w, and no arc fits
-pub record Unfollowed (G : Graph) (cells : List ℕ) (v w : ℕ) : Type 0 where
-  pub undone : T (not (isDone G v w))
-  pub no-arc : first (fits G (cellsFor G cells) noCost v w) (G .arcs) ≡ none
-
--- arcs are listed from the place `at` on, and r is the place after them
-pub record Stored (arcs : List ℕ) (at r : ℕ) (out out' : List ℕ) : Type 0 where
-  pub place : r ≡ at + length arcs
-  pub entries : out' ≡ sets out at arcs

@@ -14,8 +14,8 @@ use Rattle.lent_tables.specs.SheetTables.{SheetTables, Long, arcsAlone}
 use Rattle.graph.specs.HeldGraph.{graphIn}
 use Rattle.graph.specs.Layout.{fits, splits}
 use Rattle.cost_table.specs.Cells.{cellIn}
-use Rattle.layout.specs.declared.steps.Found.{Found}
-use Rattle.layout.specs.declared.steps.Found.the-variants.{At, Nothing}
+use Rattle.layout_steps.specs.declared.Found.{Found}
+use Rattle.layout_steps.specs.declared.Found.the-variants.{At, Nothing}
 
 -- nothing is added at a node with this landing entry: w is empty, or it is one terminal, and that has a landing there
 abbrev pub doneAt : (entry w : ℕ) → Bool

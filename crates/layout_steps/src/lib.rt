@@ -13,7 +13,7 @@ ghost use Rattle.lists.specs.Find.{first};
 ghost use Rattle.subset.specs.Sets.{isPart};
 ghost use Rattle.lent_tables.specs.SheetTables.{arcsAlone};
 ghost use Rattle.cost_table.specs.Cells.{cellIn};
-ghost use Rattle.layout.specs.Steps.{doneAt, valuesFit, fitsIn, splitsIn, foundAs, ArcsHeld};
+ghost use Rattle.layout_steps.specs.Steps.{doneAt, valuesFit, fitsIn, splitsIn, foundAs, ArcsHeld};
 
 // What a search finds: a leg or a part, by its number.
 pub enum Found {

@@ -1,11 +1,11 @@
--- `layout::steps::arc_fits` meets its contract. Each return has the tests that led to it.
+-- `layout_steps::arc_fits` meets its contract. Each return has the tests that led to it.
 -- Assumes nothing.
 use mathlib.Core.Path.{sym}
 use native.Mathlib.Omega.{arith}
 use borrow.Author.Needs.{needs}
-use Rattle.layout.specs.Tests.{starts-elsewhere, leads-nowhere, makes-cost}
-use Rattle.layout.proofs.steps.arc_fits.Statement.{statement}
-use Rattle.layout.proofs.steps.arc_fits.Tie as tie
+use Rattle.layout_steps.specs.laws.Tests.{starts-elsewhere, leads-nowhere, makes-cost}
+use Rattle.layout_steps.proofs.arc_fits.Statement.{statement}
+use Rattle.layout_steps.proofs.arc_fits.Tie as tie
 
 returns : tie.Need-returns
 returns c = let a = c .before .args in sym (starts-elsewhere (a .start) (a .weight) (a .far) (a .v) (a .cost) (c .if1 .taken))

@@ -1,15 +1,15 @@
 // "the lowest-numbered leg from v .. is added, and its end is followed with W", leg after leg, until nothing is added or no leg fits.
 // The tables hold a sheet with n sites, k stations and so many legs, and its finished cost table.
-use crate::steps::Found;
-use crate::steps::fitting_arc;
-use crate::steps::is_done;
+use layout_steps::Found;
+use layout_steps::fitting_arc;
+use layout_steps::is_done;
 use limits::Cost;
 use subset::Subset;
 ghost use lib.ListN.{length};
 ghost use Rattle.lent_tables.specs.SheetTables.{sheetTables};
 ghost use Rattle.graph.specs.HeldGraph.{graphIn};
-ghost use Rattle.layout.specs.Plan.{Ready, Placed};
-ghost use Rattle.layout.specs.Walk.{Stopped};
+ghost use Rattle.layout_walk.specs.Plan.{Ready};
+ghost use Rattle.layout_walk.specs.laws.Walk.{Placed, Stopped};
 
 // Where a walk along fitting legs stops: the site, the place after the legs that were listed, and whether nothing is added at the site.
 // Where something is to be added there, no leg fits.
