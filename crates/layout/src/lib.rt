@@ -1,6 +1,3 @@
-// Laying out a plan from a finished cost table (document 01, "Laying out a plan"): the root, the tests of one step, and the legs in the
-// order in which they are added.
+// Laying out a plan from a finished cost table (document 01, "Laying out a plan"): the root, and the legs in the order in which they are added.
 pub mod plan;
 pub mod root;
-mod steps;
-mod walk;

@@ -1,8 +1,8 @@
 // "Following and splitting hand the work to each other until the sets are used up. Legs are listed as they are added."
 // The tables hold a sheet with n sites, k stations and so many legs, and its finished cost table.
-use crate::steps::Found;
-use crate::steps::splitting_part;
-use crate::walk::walk;
+use layout_steps::Found;
+use layout_steps::splitting_part;
+use layout_walk::walk;
 use limits::Cost;
 use subset::Subset;
 ghost use mathlib.Core.Path.{_≡_};
@@ -14,7 +14,8 @@ ghost use Rattle.subset.specs.Sets.{full};
 ghost use Rattle.lent_tables.specs.SheetTables.{sheetTables};
 ghost use Rattle.graph.specs.HeldGraph.{graphIn};
 ghost use Rattle.cost_table.specs.Cells.{cellIn};
-ghost use Rattle.layout.specs.Plan.{laid, Ready, Placed, Unfollowed, Stored};
+ghost use Rattle.layout_walk.specs.Plan.{laid, Ready};
+ghost use Rattle.layout_walk.specs.laws.Walk.{Placed, Unfollowed, Stored};
 
 // The legs of site v with the set w are listed in `out` from the place `at` on; the place after them.
 // Legs are followed in a loop, so that the calls are only as deep as sets are split.

@@ -1,50 +1,27 @@
 // The search: the cost table over the graph that loaded tables hold (document 01, "The cost table").
 // It starts with the landings; then, size by size, the sets are split at each site, and closed over the legs.
-mod column;
-mod rows;
-mod sets;
-
-use crate::rows::WORKING_NONE;
-use crate::rows::split_rows;
-use crate::rows::start_rows;
-use crate::sets::close_sets;
-use crate::sets::end_of_size;
+use columns::close_sets;
 use limits::Cost;
 use order::POSITIONS;
 use order::copy_order;
+use order_ranges::end_of_size;
+use rows::split_rows;
+use rows::start_rows;
 use subset::sets_of;
+use working_none::finish;
 ghost use mathlib.Core.Path.{_≡_};
-ghost use mathlib.Core.List.{map};
 ghost use Prim.Native.Nat.{_*_, _^_, _≤_};
 ghost use lib.ListN.{length, replicate};
 ghost use Rattle.limits.specs.Limits.{noCost};
-ghost use Rattle.lists.specs.Numbers.{numbers};
 ghost use Rattle.lists.specs.Over.{over};
 ghost use Rattle.lent_tables.specs.SheetTables.{sheetTables};
 ghost use Rattle.graph.specs.HeldGraph.{graphIn};
 ghost use Rattle.cost_table.specs.Cells.{costTable};
-ghost use Rattle.search.specs.WorkingNone.{finished};
-ghost use Rattle.search.specs.InOrder.{OrderTable};
-ghost use Rattle.search.specs.Column.{entry};
-ghost use Rattle.search.specs.Whole.{Searchable};
+ghost use Rattle.order_ranges.specs.laws.InOrder.{OrderTable};
+ghost use Rattle.search.specs.Searchable.{Searchable};
 
 // The most sites.
 const MAX_NODES: usize = limits::MAX_NODES as usize;
-
-// Each "none" of the search becomes the table's.
-fn finish(cells: &mut [Cost])
-    ensures { λ _. ⌜ now (cells .exit) ≡ map (λ i. finished (entry (now (cells .entry)) i)) (numbers 0 (length (now (cells .entry)))) ⌝ }
-{
-    let mut i = 0;
-    while i < cells.len() {
-        let mut cost = cells[i];
-        if cost == WORKING_NONE {
-            cost = limits::NO_COST;
-        }
-        cells[i] = cost;
-        i += 1;
-    }
-}
 
 // The cells of all sites and sets, for a graph with a site for each entry of the column.
 fn fill(

@@ -37,9 +37,9 @@ use Rattle.planfile.specs.FormatLaws.{Fits, fits-encoding, length-file}
 use Rattle.planfile.specs.Writing.{Writing, writing, writtenOver, writingOf}
 use Rattle.planfile.specs.declared.write.Written.{Written}
 use Rattle.planfile.specs.declared.write.Written.the-variants.{File, ShortBuffer, NoFile}
-use Rattle.layout.specs.Plan.{laid, Ready}
+use Rattle.layout_walk.specs.Plan.{laid, Ready}
 use Rattle.layout.specs.Root.{fullCellIn}
-use Rattle.layout.specs.Roots.{lowest-root}
+use Rattle.layout.specs.laws.Roots.{lowest-root}
 use Rattle.mission.specs.Runs.{EngineTables, withBuffer, run}
 use Rattle.best_plan.specs.Plan.{fullCell, Plan, planWith, allNone, planAt, planUnless, planOf, written, sentBack}
 use Rattle.best_plan.specs.laws.Laid.{Plannable}

@@ -11,18 +11,18 @@ use Rattle.lent_tables.specs.SheetTables.{sheetTables}
 use Rattle.graph.specs.HeldGraph.{graphIn}
 use Rattle.order.specs.Order.{inOrder}
 use Rattle.cost_table.specs.Cells.{cellIn}
-use Rattle.search.specs.WorkingNone.{workingNone}
-use Rattle.search.specs.Filling.{Filling}
-use Rattle.search.specs.Whole.{start-asked, split-asked, close-asked, fill-start, fill-next, fill-end}
+use Rattle.working_none.specs.laws.WorkingNone.{workingNone}
+use Rattle.search.specs.laws.Filling.{Filling}
+use Rattle.search.specs.laws.Whole.{start-asked, split-asked, close-asked, fill-start, fill-next, fill-end}
 use Rattle.search.proofs.fill.Statement.{statement}
 use Rattle.search.proofs.fill.Tie as tie
 use Rattle.search.proofs.fill.Reads as reads
 use Rattle.search.proofs.fill.Lts as lts
-use Rattle.search.proofs.finish.Reads as finish-reads
-use Rattle.search.proofs.rows.split_rows.Reads as split-rows-reads
-use Rattle.search.proofs.rows.start_rows.Reads as start-rows-reads
-use Rattle.search.proofs.sets.close_sets.Reads as close-sets-reads
-use Rattle.search.proofs.sets.end_of_size.Reads as end-of-size-reads
+use Rattle.working_none.proofs.finish.Reads as finish-reads
+use Rattle.rows.proofs.split_rows.Reads as split-rows-reads
+use Rattle.rows.proofs.start_rows.Reads as start-rows-reads
+use Rattle.columns.proofs.close_sets.Reads as close-sets-reads
+use Rattle.order_ranges.proofs.end_of_size.Reads as end-of-size-reads
 use Rattle.subset.proofs.sets_of.Reads as sets-of-reads
 
 abbrev Inv-loop : tie.InvT-loop
@@ -38,34 +38,67 @@ start-rows-requires : tie.Need-start-rows-requires Inv-loop μ-loop
 start-rows-requires c κs = start-asked (c .before .before .before .before .before .before .before .before .before .pre .0) (c .before .sets-of .ensures) (now (c .before .before .before .before .before .before .before .before .before .args .cells)) (c .before .before .before .before .before .before .before .before .before .pre .1)
 
 loop-holds : tie.Need-loop-holds Inv-loop μ-loop
-loop-holds c = let whole = start-asked (c .before .before .before .before .before .before .before .before .before .before .before .before .pre .0) (c .before .before .before .before .sets-of .ensures) (now (c .before .before .before .before .before .before .before .before .before .before .before .before .args .cells)) (c .before .before .before .before .before .before .before .before .before .before .before .before .pre .1) .2 in (omega arith, omega arith, refl, c .before .before .start-rows .ensures .same-length ∙ whole, fill-start (c .before .before .before .before .before .before .before .before .before .before .before .before .pre .0) (c .before .before .before .before .sets-of .ensures) whole (c .before .before .start-rows .ensures))
+loop-holds c =
+    let p = c .before .before .before .before .before .before .before .before .before .before .before .before .pre in
+    let is = c .before .before .before .before .sets-of .ensures in
+    let rows = c .before .before .start-rows .ensures in
+    let whole = start-asked (p .0) is (now (c .before .before .before .before .before .before .before .before .before .before .before .before .args .cells)) (p .1) .2 in
+    (omega arith, omega arith, refl, rows .same-length ∙ whole, fill-start (p .0) is whole rows)
 
 end-of-size-requires : tie.Need-end-of-size-requires Inv-loop μ-loop
 end-of-size-requires c κs = (c .before .before .before .before .before .before .before .before .before .before .before .before .before .before .pre .2, c .loop-test .taken)
 
 split-rows-requires : tie.Need-split-rows-requires Inv-loop μ-loop
-split-rows-requires c κs = split-asked (c .before .before .before .before .before .before .before .before .before .before .before .before .before .before .before .before .pre .0) (c .before .before .before .before .before .before .before .before .sets-of .ensures) (c .before .end-of-size .ensures .range) (c .before .before .before .loop .cells) (c .before .before .before .before .before .before .before .before .before .before .before .before .before .before .before .before .pre .2) (c .before .before .before .loop .inv .3) (c .before .before .before .loop .inv .0) (c .before .before .before .loop .inv .4)
+split-rows-requires c κs =
+    let p = c .before .before .before .before .before .before .before .before .before .before .before .before .before .before .before .before .pre in
+    let l = c .before .before .before .loop in
+    split-asked (p .0) (c .before .before .before .before .before .before .before .before .sets-of .ensures) (c .before .end-of-size .ensures .range) (l .cells) (p .2)
+    (l .inv .3) (l .inv .0) (l .inv .4)
 
 close-sets-requires : tie.Need-close-sets-requires Inv-loop μ-loop
-close-sets-requires c κs = (c .before .before .before .before .before .before .before .before .before .before .before .before .before .before .before .before .before .before .before .before .before .pre .2, close-asked (c .before .before .before .before .before .before .before .before .before .before .before .before .before .before .before .before .before .before .before .before .before .pre .0) (c .before .before .before .before .before .before .before .before .before .before .before .before .before .sets-of .ensures) (c .before .before .before .before .before .before .end-of-size .ensures .range) (c .before .before .before .before .before .before .before .before .loop .cells) _ (c .before .before .before .before .before .before .before .before .loop .column) (c .before .before .before .before .before .before .before .before .loop .inv .2) (c .before .before .before .before .before .before .before .before .loop .inv .3) (c .before .before .before .before .before .before .before .before .loop .inv .4) (c .before .before .before .before .split-rows .ensures))
+close-sets-requires c κs =
+    let p = c .before .before .before .before .before .before .before .before .before .before .before .before .before .before .before .before .before .before .before .before .before .pre in
+    let l = c .before .before .before .before .before .before .before .before .loop in (
+      p .2,
+      close-asked (p .0) (c .before .before .before .before .before .before .before .before .before .before .before .before .before .sets-of .ensures) (c .before .before .before .before .before .before .end-of-size .ensures .range) (l .cells) _
+          (l .column) (l .inv .2) (l .inv .3) (l .inv .4) (c .before .before .before .before .split-rows .ensures),
+    )
 
 loop-less : tie.Need-loop-less Inv-loop μ-loop
 loop-less c = omega (arith, c .before .before .before .before .before .before .before .before .before .before .before .end-of-size .ensures .rising, c .before .before .before .before .before .before .before .before .before .before .before .before .loop-test .taken)
 
 loop-again : tie.Need-loop-again Inv-loop μ-loop
-loop-again c = let next = fill-next (c .before .before .before .before .before .before .before .before .before .before .before .before .before .before .before .before .before .before .before .before .before .before .before .before .before .before .pre .0) (c .before .before .before .before .before .before .before .before .before .before .before .before .before .before .before .before .before .before .sets-of .ensures) (c .before .before .before .before .before .before .before .before .before .before .before .end-of-size .ensures .range) (c .before .before .before .before .before .before .before .before .before .before .before .before .before .loop .inv .2) (c .before .before .before .before .before .before .before .before .before .before .before .before .before .loop .inv .3) (c .before .before .before .before .before .before .before .before .before .before .before .before .before .loop .inv .4) (c .before .before .before .before .before .before .before .before .before .split-rows .ensures) (c .before .before .before .before .close-sets .ensures) in (omega (arith, c .before .before .before .before .before .before .before .before .before .before .before .end-of-size .ensures .rising), c .before .before .before .before .before .before .before .before .before .before .before .end-of-size .ensures .range .bound, c .before .before .before .before .close-sets .kept .1 .1 .1 .1 .1 .1 .1 .1 .1 .0 ∙ c .before .before .before .before .before .before .before .before .before .before .before .before .before .loop .inv .2, next .0, next .1)
+loop-again c =
+    let l = c .before .before .before .before .before .before .before .before .before .before .before .before .before .loop .inv in
+    let end = c .before .before .before .before .before .before .before .before .before .before .before .end-of-size .ensures in
+    let closed = c .before .before .before .before .close-sets in
+    let next =
+    fill-next (c .before .before .before .before .before .before .before .before .before .before .before .before .before .before .before .before .before .before .before .before .before .before .before .before .before .before .pre .0) (c .before .before .before .before .before .before .before .before .before .before .before .before .before .before .before .before .before .before .sets-of .ensures) (end .range) (l .2) (l .3) (l .4)
+    (c .before .before .before .before .before .before .before .before .before .split-rows .ensures) (closed .ensures) in (
+      omega (arith, end .rising),
+      end .range .bound,
+      closed .kept .1 .1 .1 .1 .1 .1 .1 .1 .1 .0 ∙ l .2,
+      next .0,
+      next .1,
+    )
 
 finish-requires : tie.Need-finish-requires Inv-loop μ-loop
 finish-requires c κs = search needs
 
 same-length : tie.Need-same-length Inv-loop μ-loop
-same-length c = c .before .before .finish .kept .0 ∙ c .before .before .before .before .before .loop .inv .3 ∙ sym (start-asked (c .before .before .before .before .before .before .before .before .before .before .before .before .before .before .before .before .before .before .pre .0) (c .before .before .before .before .before .before .before .before .before .before .sets-of .ensures) (now (c .before .before .before .before .before .before .before .before .before .before .before .before .before .before .before .before .before .before .args .cells)) (c .before .before .before .before .before .before .before .before .before .before .before .before .before .before .before .before .before .before .pre .1) .2)
+same-length c =
+    let p = c .before .before .before .before .before .before .before .before .before .before .before .before .before .before .before .before .before .before .pre in
+    let whole = start-asked (p .0) (c .before .before .before .before .before .before .before .before .before .before .sets-of .ensures) (now (c .before .before .before .before .before .before .before .before .before .before .before .before .before .before .before .before .before .before .args .cells)) (p .1) .2 in
+    c .before .before .finish .kept .0 ∙ c .before .before .before .before .before .loop .inv .3 ∙ sym whole
 
 same-length-2 : tie.Need-same-length-2 Inv-loop μ-loop
 same-length-2 c = c .before .before .before .before .before .loop .inv .2
 
 returns : tie.Need-returns Inv-loop μ-loop
-returns c = fill-end (c .before .before .before .before .before .before .before .before .before .before .before .before .before .before .before .before .before .before .pre .0) (c .before .before .before .before .before .before .before .before .before .before .sets-of .ensures) (c .before .before .before .before .before .loop .cells) (c .before .before .before .before .loop-test .left) (c .before .before .before .before .before .loop .inv .1) (c .before .before .before .before .before .loop .inv .3) (c .before .before .before .before .before .loop .inv .4) (c .before .before .finish .ensures)
+returns c =
+    let l = c .before .before .before .before .before .loop in
+    fill-end (c .before .before .before .before .before .before .before .before .before .before .before .before .before .before .before .before .before .before .pre .0) (c .before .before .before .before .before .before .before .before .before .before .sets-of .ensures) (l .cells) (c .before .before .before .before .loop-test .left)
+    (l .inv .1) (l .inv .3) (l .inv .4) (c .before .before .finish .ensures)
 
 pub fill-spec : {M : Type 1} → statement M
 fill-spec =

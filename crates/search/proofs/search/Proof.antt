@@ -1,12 +1,11 @@
 -- `search::search` meets its contract.
 -- Assumes nothing.
-use borrow.Author.Needs.{needs}
 use mathlib.Core.Path.{sym}
+use borrow.Author.Needs.{needs}
 use native.Mathlib.Omega.{arith}
 use lib.Seq.{length-take-le}
 use denote.Ref.{now}
-use borrow.Author.Needs.{needs}
-use Rattle.search.specs.Whole.{total-fits, total-long, fill-asked, cells-over, marks-over}
+use Rattle.search.specs.laws.Whole.{total-fits, total-long, fill-asked, cells-over, marks-over}
 use Rattle.search.proofs.search.Statement.{statement}
 use Rattle.search.proofs.search.Tie as tie
 use Rattle.search.proofs.search.Reads as reads
@@ -44,7 +43,10 @@ slice-aggregate-fill-3 : tie.Need-slice-aggregate-fill-3
 slice-aggregate-fill-3 c = sym (length-take-le _ _ (omega (arith, c .before .before .before .before .before .before .before .before .before .before .before .before .before .pre .0 .few-nodes)))
 
 fill-requires : tie.Need-fill-requires
-fill-requires c κs = fill-asked (c .before .before .before .before .before .before .before .before .before .before .before .before .before .pre .0) (c .before .before .before .before .before .before .sets-of .ensures) (now (c .before .before .before .before .before .before .before .before .before .before .before .before .before .args .cells)) _ (c .before .before .before .before .before .before .before .before .before .before .before .before .before .pre .1) (omega (arith, c .before .before .before .before .before .before .before .before .before .before .before .before .before .pre .0 .few-nodes)) (record { each = c .before .before .before .before .copy-order .ensures })
+fill-requires c κs =
+    let p = c .before .before .before .before .before .before .before .before .before .before .before .before .before .pre in
+    fill-asked (p .0) (c .before .before .before .before .before .before .sets-of .ensures) (now (c .before .before .before .before .before .before .before .before .before .before .before .before .before .args .cells)) _ (p .1)
+    (omega (arith, p .0 .few-nodes)) (record { each = c .before .before .before .before .copy-order .ensures })
 
 slice-relend-prefix-mark-all : tie.Need-slice-relend-prefix-mark-all
 slice-relend-prefix-mark-all c = search needs
@@ -62,7 +64,12 @@ same-length-2 : tie.Need-same-length-2
 same-length-2 c = search needs
 
 returns : tie.Need-returns
-returns c = (cells-over (c .before .before .before .before .before .before .before .before .before .before .before .before .before .before .before .before .before .before .before .before .before .pre .0) (c .before .before .before .before .before .before .before .before .before .before .before .before .before .before .sets-of .ensures) (now (c .before .before .before .before .before .before .before .before .before .before .before .before .before .before .before .before .before .before .before .before .before .args .cells)) _ _ (omega (arith, c .before .before .before .before .before .before .before .before .before .before .before .before .before .before .before .before .before .before .before .before .before .pre .0 .few-nodes)) (c .before .before .before .before .before .before .before .fill .ensures), marks-over _ (now (c .before .before .before .before .before .before .before .before .before .before .before .before .before .before .before .before .before .before .before .before .before .args .marks)) _ (c .before .before .before .before .before .before .before .before .before .before .before .before .before .before .before .before .before .before .before .before .before .pre .2) (c .before .before .mark-all .ensures))
+returns c =
+    let a = c .before .before .before .before .before .before .before .before .before .before .before .before .before .before .before .before .before .before .before .before .before .args in
+    let p = c .before .before .before .before .before .before .before .before .before .before .before .before .before .before .before .before .before .before .before .before .before .pre in (
+      cells-over (p .0) (c .before .before .before .before .before .before .before .before .before .before .before .before .before .before .sets-of .ensures) (now (a .cells)) _ _ (omega (arith, p .0 .few-nodes)) (c .before .before .before .before .before .before .before .fill .ensures),
+      marks-over _ (now (a .marks)) _ (p .2) (c .before .before .mark-all .ensures),
+    )
 
 pub search-spec : {M : Type 1} → statement M
 search-spec =

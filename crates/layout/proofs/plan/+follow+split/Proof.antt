@@ -4,9 +4,10 @@
 use Prim.Native.Nat.{ℕ, _+_, _<_}
 use denote.Ref.{now}
 use borrow.Author.Needs.{needs}
-use Rattle.layout.specs.Laying.{load}
-use Rattle.layout.specs.Walking.{walked-stored, stop-stored, stop-falls}
-use Rattle.layout.specs.FollowSplit.{cell-in, split-found, first-placed, first-falls, others-placed, others-falls, both-stored}
+use Rattle.layout_walk.specs.laws.Arcs.{load}
+use Rattle.layout_walk.specs.laws.Walking.{walked-stored, stop-stored, stop-falls}
+use Rattle.layout_walk.specs.laws.Following.{cell-in}
+use Rattle.layout.specs.laws.Splitting.{split-found, first-placed, first-falls, others-placed, others-falls, both-stored}
 use borrow.Fn.Kinds.{In}
 use borrow.Fn.PlainCycle.{Measures, is, falls, and}
 use Rattle.layout.proofs.plan.follow.Reads as follow
@@ -15,8 +16,8 @@ use Rattle.layout.proofs.plan.+follow+split.Lts-follow as follow-lts
 use Rattle.layout.proofs.plan.split.Reads as split
 use Rattle.layout.proofs.plan.split.Kinds as split-kinds
 use Rattle.layout.proofs.plan.+follow+split.Lts-split as split-lts
-use Rattle.layout.proofs.steps.splitting_part.Reads as splitting-part-reads
-use Rattle.layout.proofs.walk.walk.Reads as walk-reads
+use Rattle.layout_steps.proofs.splitting_part.Reads as splitting-part-reads
+use Rattle.layout_walk.proofs.walk.Reads as walk-reads
 use Rattle.subset.proofs.Subset.without.Reads as without-reads
 use Rattle.layout.proofs.plan.+follow+split.{statement}
 use Rattle.layout.proofs.plan.+follow+split.Tie.{close}

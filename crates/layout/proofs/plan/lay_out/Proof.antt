@@ -1,7 +1,7 @@
 -- `layout::plan::lay_out` meets its contract: the legs of the root have room from the first place on.
 -- Assumes nothing.
 use borrow.Author.Needs.{needs}
-use Rattle.layout.specs.FollowSplit.{root-placed, root-stored}
+use Rattle.layout.specs.laws.Splitting.{root-placed, root-stored}
 use Rattle.layout.proofs.plan.lay_out.Statement.{statement}
 use Rattle.layout.proofs.plan.lay_out.Tie as tie
 

@@ -2,7 +2,7 @@
 -- Assumes nothing.
 use denote.Ref.{now}
 use borrow.Author.Needs.{needs}
-use Rattle.layout.specs.Roots.{full-in, lowest-full}
+use Rattle.layout.specs.laws.Roots.{full-in, lowest-full}
 use Rattle.layout.proofs.root.best_root.Statement.{statement}
 use Rattle.layout.proofs.root.best_root.Tie as tie
 

@@ -1,0 +1,114 @@
+// The tests of one step of the layout at a site v with a set w: whether nothing is added, which leg fits, and which part splits the set.
+use cost_table::cell;
+use limits::Cost;
+use subset::Subset;
+use subset::terminals_in;
+ghost use mathlib.Core.Path.{_≡_};
+ghost use mathlib.Core.Bool.{_&&_};
+ghost use Prim.Native.Nat.{_+_, _*_, _-_, _^_, _≤_, _<_};
+ghost use lib.Dec.{eqb};
+ghost use lib.ListN.{length, getD};
+ghost use Rattle.limits.specs.Limits.{maxTerminals, noCost};
+ghost use Rattle.lists.specs.Find.{first};
+ghost use Rattle.subset.specs.Sets.{isPart};
+ghost use Rattle.lent_tables.specs.SheetTables.{arcsAlone};
+ghost use Rattle.cost_table.specs.Cells.{cellIn};
+ghost use Rattle.layout_steps.specs.Steps.{doneAt, valuesFit, fitsIn, splitsIn, foundAs, ArcsHeld};
+
+// What a search finds: a leg or a part, by its number.
+pub enum Found {
+    At(u16),
+    Nothing,
+}
+
+// "nothing is added when W is empty, or when W is one station and v is its landing"
+pub fn is_done(landings: &[u16], v: u16, w: Subset) -> bool
+    requires { ⌜ v < length (now landings) ⌝ }
+    ensures { λ r. ⌜ r ≡ doneAt (getD (now (landings .entry)) v 0) (w .0) ⌝ }
+{
+    if w.0 == 0 {
+        return true;
+    }
+    if w.size() != 1 {
+        return false;
+    }
+    w.is_part_of(terminals_in(landings[v as usize]))
+}
+
+// Whether a leg with this start and price fits at v, where its end's cell is `far` and v's cell is `cost`. Only a finite cell is added to.
+fn arc_fits(start: u16, weight: u32, far: Cost, v: u16, cost: Cost) -> bool
+    ensures { λ r. ⌜ r ≡ valuesFit start weight far v cost ⌝ }
+{
+    if start != v {
+        return false;
+    }
+    if far == limits::NO_COST {
+        return false;
+    }
+    (weight as u64) + (far as u64) == cost as u64
+}
+
+// "the lowest-numbered leg from v whose price plus the finite cell (end, W) equals cell (v, W)"
+pub fn fitting_arc(
+    starts: &[u16],
+    ends: &[u16],
+    weights: &[u32],
+    cells: &[Cost],
+    k: u8,
+    arcs: u16,
+    v: u16,
+    w: Subset,
+) -> Found
+    requires { ⌜ ArcsHeld k arcs (arcsAlone (now starts) (now ends) (now weights)) (now cells) v (w .0) ⌝ }
+    ensures { λ r. ⌜ (let t = arcsAlone (now (starts .entry)) (now (ends .entry)) (now (weights .entry)) in
+        (r ≡ foundAs (first (fitsIn k arcs t (now (cells .entry)) v (w .0)) arcs))) ⌝ }
+{
+    let cost = cell(cells, k, v, w);
+    let mut e = 0;
+    while e < arcs {
+        let i = e as usize;
+        let far = cell(cells, k, ends[i], w);
+        if arc_fits(starts[i], weights[i], far, v, cost) {
+            return Found::At(e);
+        }
+        e += 1;
+    }
+    Found::Nothing
+}
+
+// Whether y is within w, and its cell and that of the rest make v's cell, `cost`, which is finite. Only finite cells are added.
+fn part_splits(cells: &[Cost], k: u8, v: u16, w: Subset, y: Subset, cost: Cost) -> bool
+    requires { ⌜ (k ≤ maxTerminals) × (v * 2 ^ k + w .0 < length (now cells)) × (cost < noCost) ⌝ }
+    ensures { λ r. ⌜ r
+        ≡ (isPart (y .0) (w .0)
+        && eqb (cellIn (now (cells .entry)) (2 ^ k) v (y .0) + cellIn (now (cells .entry)) (2 ^ k) v (w .0 - y .0)) cost) ⌝ }
+{
+    if !y.is_part_of(w) {
+        return false;
+    }
+    let part = cell(cells, k, v, y);
+    if part == limits::NO_COST {
+        return false;
+    }
+    let rest = cell(cells, k, v, w.without(y));
+    if rest == limits::NO_COST {
+        return false;
+    }
+    (part as u64) + (rest as u64) == cost as u64
+}
+
+// "the lowest Y within W, neither empty nor W, with cell (v, Y) + cell (v, W without Y) = cell (v, W)"
+pub fn splitting_part(cells: &[Cost], k: u8, v: u16, w: Subset) -> Found
+    requires { ⌜ (k ≤ maxTerminals) × (v * 2 ^ k + w .0 < length (now cells)) × (cellIn (now cells) (2 ^ k) v (w .0) < noCost) ⌝ }
+    ensures { λ r. ⌜ r ≡ foundAs (first (splitsIn k (now (cells .entry)) v (w .0)) (w .0)) ⌝ }
+{
+    let cost = cell(cells, k, v, w);
+    let mut y = 1;
+    while y < w.0 {
+        if part_splits(cells, k, v, w, Subset(y), cost) {
+            return Found::At(y);
+        }
+        y += 1;
+    }
+    Found::Nothing
+}

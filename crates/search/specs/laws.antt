@@ -1,0 +1,4 @@
+-- the table while it is filled
+pub mod Filling
+-- from the start to the end
+pub mod Whole

@@ -1,0 +1,272 @@
+-- The search from its start to its end: the table that is filled is the cost table.
+-- Assumes nothing.
+use Prim.Native.Nat.{ℕ, _+_, _-_, _*_, _^_, _≤_, _<_}
+use mathlib.Core.Path.{_≡_, refl, sym, ap, ap₂, _∙_, subst}
+use mathlib.Core.Logic.{_⊎_, inl, inr}
+use mathlib.Core.List.{List, _++_, map}
+use native.Mathlib.Omega.{arith}
+use native.Mathlib.Nat.{zero-add, mul-le-mul}
+use lib.Arith.{digits-lt}
+use lib.ListN.{length, getD, take, drop, replicate, length-replicate}
+use lib.Seq.{length-take-le}
+use lib.Pow.{pow-lt, pow-pos, pow-mono}
+use mathlib.Core.Bool.{Bool, true, false, cond}
+use mathlib.Core.Option.{Option, none, some, Option·getD}
+use lib.Dec.{eqb}
+use Rattle.graph.specs.LeastTotals.{leastTotal, IsLeastTotal, leastCell, IsCostTable, Room}
+use Rattle.graph.specs.Theorems.{least-total-is-least}
+use Rattle.working_none.specs.laws.WorkingNone.{finished-below, workingNone, finished}
+use Rattle.limits.specs.Limits.{maxNodes, maxTerminals, maxSubsets, maxWeight, noCost}
+use Rattle.lists.specs.Numbers.{numbers, length-values, getD-values}
+use Rattle.lists.specs.Over.{over}
+use Rattle.lent_tables.specs.SheetTables.{SheetTables, arcTablesOf, arcs-long}
+use Rattle.subset.specs.Sets.{single, terminalsIn}
+use Rattle.subset.specs.Terminals.{has-lt}
+use Rattle.subset.specs.Parts.{part-le}
+use Rattle.graph.specs.Graph.{Graph}
+use Rattle.graph.specs.HeldGraph.{graphIn, start-in, end-in, weight-in, landings-in}
+use Rattle.graph.specs.ClosedSupported.{by-landing}
+use Rattle.graph.specs.laws.LeastMeaning.{room-above}
+use Rattle.cost_table.specs.Cells.{cellIn, costTable}
+use Rattle.cost_table.specs.Rows.{length-cells, cells-are}
+use Rattle.order.specs.Order.{inOrder}
+use Rattle.rows.specs.laws.Start.{startCell, start-landing, start-le, start-finite}
+use Rattle.order_ranges.specs.laws.Ranges.{OneSize}
+use Rattle.order_ranges.specs.laws.InOrder.{in-order, first-empty, OrderTable}
+use Rattle.rows.specs.laws.BestSplit.{BestSplit, best-split-same}
+use Rattle.search.specs.laws.Filling.{Filling, splitting, closing, filled}
+use Rattle.settling.specs.laws.ClosedOver.{ArcFrom, ClosedOver}
+use Rattle.working_none.specs.laws.Low.{entry, AllLow}
+use Rattle.settling.specs.laws.Arcs.{startAt, endAt, weightAt, ArcTables}
+use Rattle.rows.specs.laws.Rows.{rowOf, StartRow, EachRow, row-fits, row-length, row-entry}
+use Rattle.rows.specs.laws.SplitRow.{SplitRow}
+use Rattle.columns.specs.laws.ClosedCells.{cells-low, SetsClosed}
+use Rattle.search.specs.Searchable.{Searchable}
+
+-- the least totals with the one "none" become those with the other
+pub finished-cell : (G : Graph) → Room G workingNone → (v w : ℕ) → finished (leastCell G workingNone v w) ≡ leastCell G noCost v w
+finished-cell G room v w = go (eqb w 0) (leastTotal G v w) (least-total-is-least G v w)
+  where
+    go : (b : Bool) (o : Option ℕ) → IsLeastTotal G v w o → finished (cond b 0 (Option·getD o workingNone)) ≡ cond b 0 (Option·getD o noCost)
+    go true o says = refl
+    go false none says = refl
+    go false (some x) says = finished-below x (subst (λ (y : ℕ). y < workingNone) (says .attained) (room v (says .tree) (says .subtree)))
+
+module _ {n k m : ℕ} {t : SheetTables} (S : Searchable n k m t) where
+  abbrev G : Graph
+  G = graphIn n k m t
+
+  pub arc-tables : ArcTables n m (arcTablesOf t)
+  arc-tables = record {
+    few = S .few-nodes;
+    long = arcs-long (S .long);
+    start-lt = λ e l. subst (λ (x : ℕ). x < n) (start-in n k m t e l) (S .sound .start-lt e l);
+    end-lt = λ e l. subst (λ (x : ℕ). x < n) (end-in n k m t e l) (S .sound .end-lt e l);
+    weight-le = λ e l. subst (λ (x : ℕ). x ≤ maxWeight) (weight-in n k m t e l) (S .weights-low e l);
+  }
+
+  room : Room G workingNone
+  room = room-above G (S .sound) maxWeight 0 workingNone (S .weights-low) (λ u _. omega arith) (omega (arith, S .few-nodes))
+
+  pub few-sets : 2 ^ k ≤ maxSubsets
+  few-sets = pow-mono {j = maxTerminals} (S .few-terminals)
+
+  module _ {size : ℕ} (is : size ≡ 2 ^ k) where
+    -- ---- the start
+
+    module _ {before cells : List ℕ} (whole : length before ≡ n * size) (E : EachRow (StartRow (t .landings)) n size n before cells) where
+      start-cells : (v w : ℕ) → v < n → w < size → cellIn cells size v w ≡ startCell (G .landings v) w
+      start-cells v w on small =
+          let fits = row-fits v n size on in
+          let f : ℕ → ℕ = startCell (terminalsIn (getD (t .landings) v 0)) in
+          sym (row-entry size cells v w small)
+          ∙ ap (λ (l : List ℕ). entry l w) (E .done v on .cells)
+          ∙ getD-values f 0 (length (rowOf before size v)) w 0 (omega (arith, row-length size before v (omega arith)))
+          ∙ ap f (zero-add w)
+          ∙ ap (λ (x : ℕ). startCell x w) (sym (landings-in n k m t v on))
+
+      pub fill-start : Filling G workingNone inOrder 1 1 (cellIn cells size)
+      fill-start = record {
+        nothing = λ v on. start-cells v 0 on (omega (arith, pow-pos k));
+        landed = λ v i on l here. start-cells v (single i) on (omega (arith, pow-lt l)) ∙ start-landing (G .landings v) i here;
+        capped = λ v w on small. omega (arith, start-cells v w on (omega arith), start-le (G .landings v) w);
+        supported = λ v w on ne small finite.
+            let one = start-finite (G .landings v) w ne (omega (arith, start-cells v w on (omega arith))) in
+            by-landing (one .terminal) (has-lt k w (one .terminal) small (one .own)) (one .alone) (one .landing) (omega arith);
+        closed = λ i l ne small. absurd (ne (ap inOrder (let z : i ≡ 0 = omega arith in z) ∙ first-empty));
+        started = λ i f g small. absurd (omega arith);
+      }
+
+    -- ---- one size
+
+    module _ {first last : ℕ} (R : OneSize inOrder maxSubsets first last) {before after : List ℕ} where
+      pub fill-split : length before ≡ n * size → Filling G workingNone inOrder first first (cellIn before size)
+          → EachRow (λ v. SplitRow inOrder first last) n size n before after → Filling G workingNone inOrder first last (cellIn after size)
+      fill-split whole F E =
+          splitting G (S .sound) (λ v. refl) workingNone inOrder maxSubsets in-order few-sets first last R (cellIn before size) (cellIn after size) F
+          (record {
+            others = λ v w on small out.
+                sym (row-entry size after v w (omega arith)) ∙ E .done v on .others w out ∙ row-entry size before v w (omega arith);
+            each = best;
+          })
+        where
+          long : (v : ℕ) → v < n → length (rowOf before size v) ≡ size
+          long v on = let fits = row-fits v n size on in row-length size before v (omega arith)
+
+          best : (v i : ℕ) → v < n → first ≤ i → i < last → inOrder i < 2 ^ k → BestSplit (cellIn before size v) (inOrder i) (cellIn after size v (inOrder i))
+          best v i on f g small =
+              best-split-same (entry (rowOf before size v)) (cellIn before size v) (inOrder i) (entry (rowOf after size v) (inOrder i))
+              (cellIn after size v (inOrder i))
+              (row-entry size before v (inOrder i) (omega arith))
+              (λ y part ny ne. let le = part-le y (inOrder i) part in row-entry size before v y (omega arith))
+              (λ y part ny ne. let le = part-le y (inOrder i) part in row-entry size before v (inOrder i - y) (omega arith))
+              (row-entry size after v (inOrder i) (omega arith))
+              (E .done v on .each i f g (omega (arith, long v on)))
+
+      pub fill-close : Filling G workingNone inOrder first last (cellIn before size) → SetsClosed n m size (arcTablesOf t) inOrder first last before after
+          → Filling G workingNone inOrder last last (cellIn after size)
+      fill-close F C =
+          closing G (S .sound) (λ v. refl) workingNone inOrder maxSubsets in-order few-sets first last R (cellIn before size) (cellIn after size) F
+          (record {
+            others = λ v w on small out. C .sets .others v w on (omega arith) out;
+            each = λ i f g small. on-graph i (C .sets .each i f g (omega arith));
+          })
+        where
+          on-graph : (i : ℕ) → ClosedOver n m (startAt t) (endAt t) (weightAt t) (λ v. cellIn before size v (inOrder i))
+              (λ v. cellIn after size v (inOrder i))
+              → ClosedOver n m (G .start) (G .end) (G .weight) (λ v. cellIn before size v (inOrder i)) (λ v. cellIn after size v (inOrder i))
+          on-graph i D = record {
+            low = D .low;
+            from = λ v on. go v (D .from v on);
+            closed = λ e l.
+                omega (
+                  arith,
+                  D .closed e l,
+                  weight-in n k m t e l,
+                  ap (λ (u : ℕ). cellIn after size u (inOrder i)) (start-in n k m t e l),
+                  ap (λ (u : ℕ). cellIn after size u (inOrder i)) (end-in n k m t e l),
+                );
+          }
+            where
+              go : (v : ℕ) → (cellIn after size v (inOrder i) ≡ cellIn before size v (inOrder i))
+                  ⊎ ArcFrom m (startAt t) (endAt t) (weightAt t) (λ u. cellIn after size u (inOrder i)) v
+                  → (cellIn after size v (inOrder i) ≡ cellIn before size v (inOrder i)) ⊎ ArcFrom m (G .start) (G .end) (G .weight)
+                  (λ u. cellIn after size u (inOrder i)) v
+              go v (inl e) = inl e
+              go v (inr h) = inr (record {
+                arc = h .arc;
+                on-graph = h .on-graph;
+                from = start-in n k m t (h .arc) (h .on-graph) ∙ h .from;
+                gives = omega (
+                  arith,
+                  h .gives,
+                  weight-in n k m t (h .arc) (h .on-graph),
+                  ap (λ (u : ℕ). cellIn after size u (inOrder i)) (end-in n k m t (h .arc) (h .on-graph)),
+                );
+              })
+
+    -- no entry of the list of cells is above "none"
+    pub fill-low : {p q : ℕ} (cells : List ℕ) → length cells ≡ n * size → Filling G workingNone inOrder p q (cellIn cells size) → AllLow cells
+    fill-low cells whole F = cells-low n size cells whole (λ v w on small. F .capped v w on (omega arith))
+
+    -- ---- what is asked of the cells, and of a column with an entry for each node
+
+    size-few : size ≤ maxSubsets
+    size-few = omega (arith, few-sets)
+
+    pub start-asked : (cells : List ℕ) → length cells ≡ n * 2 ^ k
+        → (n ≤ maxNodes) × (size ≤ maxSubsets) × (length cells ≡ n * size) × (n ≤ length (t .landings))
+    start-asked cells whole = (S .few-nodes, size-few, whole ∙ ap (λ (x : ℕ). n * x) (sym is), S .long .landings)
+
+    module _ {first last : ℕ} (R : OneSize inOrder maxSubsets first last) where
+      pub split-asked : {sets : List ℕ} (cells : List ℕ) → OrderTable sets → length cells ≡ n * size → 0 < first
+          → Filling G workingNone inOrder first first (cellIn cells size)
+          → OrderTable sets × (n ≤ maxNodes) × (size ≤ maxSubsets) × (length cells ≡ n * size) × (0 < first) × OneSize inOrder maxSubsets first last ×
+          AllLow cells
+      split-asked cells order whole pos F = (order, S .few-nodes, size-few, whole, pos, R, fill-low cells whole F)
+
+      -- after the splits
+      pub close-asked : (before cells column : List ℕ) → length column ≡ n → length before ≡ n * size
+          → Filling G workingNone inOrder first first (cellIn before size)
+          → EachRow (λ v. SplitRow inOrder first last) n size n before cells
+          → OneSize inOrder maxSubsets first last × (length cells ≡ length column * size) × ArcTables (length column) m (arcTablesOf t) × AllLow cells
+          × (size ≤ maxSubsets)
+      close-asked before cells column so-many whole F E =
+          let all : length cells ≡ n * size = E .same-length ∙ whole in (
+            R,
+            all ∙ ap (λ (x : ℕ). x * size) (sym so-many),
+            subst (λ (x : ℕ). ArcTables x m (arcTablesOf t)) (sym so-many) arc-tables,
+            fill-low cells all (fill-split R whole F E),
+            size-few,
+          )
+
+      -- one size is done
+      pub fill-next : {len : ℕ} {before mid after : List ℕ} → len ≡ n → length before ≡ n * size
+          → Filling G workingNone inOrder first first (cellIn before size)
+          → EachRow (λ v. SplitRow inOrder first last) n size n before mid → SetsClosed len m size (arcTablesOf t) inOrder first last mid after
+          → (length after ≡ n * size) × Filling G workingNone inOrder last last (cellIn after size)
+      fill-next {len} {before} {mid} {after} so-many whole F E C = (
+        C .same-length ∙ E .same-length ∙ whole,
+        fill-close R (fill-split R whole F E) (subst (λ (x : ℕ). SetsClosed x m size (arcTablesOf t) inOrder first last mid after) so-many C),
+      )
+
+    -- ---- the end
+
+    pub fill-end : {p : ℕ} (before : List ℕ) {after : List ℕ} → maxSubsets ≤ p → p ≤ maxSubsets → length before ≡ n * size
+        → Filling G workingNone inOrder p p (cellIn before size)
+        → after ≡ map (λ i. finished (entry before i)) (numbers 0 (length before)) → after ≡ costTable G noCost
+    fill-end {p} before {after} high low whole F done =
+        cells-are n (2 ^ k) (leastCell G noCost) after
+        (ap length done ∙ length-values (λ i. finished (entry before i)) 0 (length before) ∙ whole ∙ ap (λ (x : ℕ). n * x) is)
+        (λ v w on small. ap (λ (x : ℕ). cellIn after x v w) (sym is) ∙ each v w on (omega arith))
+      where
+        each : (v w : ℕ) → v < n → w < size → cellIn after size v w ≡ leastCell G noCost v w
+        each v w on small =
+            let l = digits-lt on small in
+            ap (λ (x : List ℕ). entry x (v * size + w)) done
+            ∙ getD-values (λ i. finished (entry before i)) 0 (length before) (v * size + w) 0 (omega arith)
+            ∙ ap (λ (x : ℕ). finished (entry before x)) (zero-add (v * size + w))
+            ∙ ap finished (table v w on (omega arith))
+            ∙ finished-cell G room v w
+          where
+            table : IsCostTable G (cellIn before size) workingNone
+            table = filled G (S .sound) workingNone room inOrder maxSubsets in-order few-sets (cellIn before size)
+                (subst (λ (x : ℕ). Filling G workingNone inOrder x x (cellIn before size)) (let e : p ≡ maxSubsets = omega arith in e) F)
+
+-- ---- parts of longer tables
+
+module _ {n k m : ℕ} {t : SheetTables} (S : Searchable n k m t) where
+  -- how many cells there are
+  pub total-fits : {size : ℕ} → size ≡ 2 ^ k → n * size ≤ maxNodes * maxSubsets
+  total-fits {size} is = let few : size ≤ maxSubsets = omega (arith, few-sets S) in mul-le-mul (S .few-nodes) few
+
+  pub total-long : {size len : ℕ} → size ≡ 2 ^ k → n * 2 ^ k ≤ len → n * size ≤ len
+  total-long is long = omega (arith, ap (λ (x : ℕ). n * x) is)
+
+  -- what is asked of a part of the cells and a part of the column, where n and so many cells are taken
+  pub fill-asked : {size : ℕ} {sets : List ℕ} → size ≡ 2 ^ k → (cells column : List ℕ) → n * 2 ^ k ≤ length cells → n ≤ length column → OrderTable sets
+      → Searchable (length (take n column)) k m t × (length (take (n * size) cells) ≡ length (take n column) * 2 ^ k) ×
+      OrderTable sets
+  fill-asked {size} is cells column long wide order =
+      let so-many : length (take n column) ≡ n = length-take-le n column wide in (
+        subst (λ (x : ℕ). Searchable x k m t) (sym so-many) S,
+        length-take-le (n * size) cells (total-long is long) ∙ ap (λ (x : ℕ). n * x) is ∙ ap (λ (x : ℕ). x * 2 ^ k) (sym so-many),
+        order,
+      )
+
+  -- the first cells are the cost table, and later ones are untouched
+  pub cells-over : {size : ℕ} → size ≡ 2 ^ k → (old column new : List ℕ) → n ≤ length column
+      → new ≡ costTable (graphIn (length (take n column)) k m t) noCost
+      → new ++ drop (n * size) old ≡ over (costTable (graphIn n k m t) noCost) old
+  cells-over {size} is old column new wide e =
+      let table : List ℕ = costTable (graphIn n k m t) noCost in
+      let same : new ≡ table =
+      e ∙ ap (λ (x : ℕ). costTable (graphIn x k m t) noCost) (length-take-le n column wide) in
+      let so-many : n * size ≡ length table =
+      ap (λ (x : ℕ). n * x) is ∙ sym (length-cells n (2 ^ k) (leastCell (graphIn n k m t) noCost)) in
+      ap₂ (λ (a : List ℕ) (i : ℕ). a ++ drop i old) same so-many
+
+-- the first marks are 1, and later ones are untouched
+pub marks-over : (n : ℕ) (old new : List ℕ) → n ≤ length old → new ≡ replicate (length (take n old)) 1 → new ++ drop n old ≡ over (replicate n 1) old
+marks-over n old new long e =
+    ap₂ (λ (a : List ℕ) (i : ℕ). a ++ drop i old) (e ∙ ap (λ (x : ℕ). replicate x 1) (length-take-le n old long)) (sym (length-replicate n 1))
