@@ -27,8 +27,8 @@ use Rattle.mission.specs.Runs.{EngineTables, GoodWith}
 use Rattle.mission.specs.PointOne.{AsAfterPlan, EngineAnswers}
 use Rattle.engine.specs.Engine.{planningOf}
 use Rattle.engine.specs.laws.PointOne.{point-one}
-use Rattle.enquirer.specs.Questions.{Sends}
-use Rattle.enquirer.specs.Tested.{in-limits, cell-stands, sender-stands}
+use Rattle.questions.specs.Questions.{Sends}
+use Rattle.questions.specs.laws.Tested.{in-limits, cell-stands, sender-stands}
 use Rattle.cases.specs.Meaning.{Finished, CellMeans, least-total, no-total, SenderMeans, attains, none-serves, MeansLeast}
 
 -- ---- of a cost table

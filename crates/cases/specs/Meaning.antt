@@ -12,7 +12,7 @@ use Rattle.answer.specs.Stated.{Stated, plan, cell, sender, noSender, refused}
 use Rattle.graph.specs.Graph.{Graph}
 use Rattle.graph.specs.Subtrees.{Subtree, Covers, total}
 use Rattle.graph.specs.LeastTotals.{NoSubtree, Least}
-use Rattle.enquirer.specs.Questions.{cellAnswer, SenderAnswer}
+use Rattle.questions.specs.Questions.{cellAnswer, SenderAnswer}
 
 -- the engine has planned the sheet, or answered 12 or 13: the cost table is finished
 abbrev pub Finished : Stated → Type 0

@@ -1,17 +1,13 @@
 // The enquirer over a finished cost table (document 01, "The cost table"): it keeps the table itself, with n and k beside it. It gives the cell
 // for a site and a subset, and the best sender of a subset. Its methods take it apart; `cell` and `best_sender` are for callers who
 // have the table and the numbers. Any numbers may be asked, with any table. Nothing is written.
-mod cell_question;
-mod ranges;
-mod sender_question;
-
-use crate::cell_question::cell_in;
-use crate::sender_question::best_sender_in;
 use answer::Enquiry;
 use limits::Cost;
+use questions::cell_question::cell_in;
+use questions::sender_question::best_sender_in;
 ghost use mathlib.Core.Path.{_≡_};
 ghost use Rattle.answer.specs.Stated.{statedEnquiry};
-ghost use Rattle.enquirer.specs.Questions.{cellAnswer, SenderAnswer};
+ghost use Rattle.questions.specs.Questions.{cellAnswer, SenderAnswer};
 
 // A finished cost table for n sites and k stations.
 pub struct Enquirer<'a> {

@@ -12,7 +12,7 @@ ghost use mathlib.Core.Path.{_≡_};
 ghost use Rattle.lent_tables.specs.SheetTables.{sheetTables};
 ghost use Rattle.mission.specs.Runs.{engineTables, readerTables};
 ghost use Rattle.engine.specs.Engine.{planningOf};
-ghost use Rattle.enquirer.specs.Questions.{cellAnswer, SenderAnswer};
+ghost use Rattle.questions.specs.Questions.{cellAnswer, SenderAnswer};
 ghost use Rattle.plan_reader.specs.Reader.{readingOf};
 ghost use Rattle.c_values.specs.Values.{Gives, GivesOne};
 ghost use Rattle.uldhvamm.specs.Interface.{interface};

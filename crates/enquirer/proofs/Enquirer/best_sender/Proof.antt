@@ -39,7 +39,7 @@ use denote.Triple.Walked.{says, Stays, stay-none, walkOf, goes-none, Walks, ends
 use denote.Exit.{yes}
 use denote.Triple.Clauses.{ensured, lasts}
 use Rattle.answer.specs.Stated.{statedEnquiry}
-use Rattle.enquirer.specs.Questions.{SenderAnswer}
+use Rattle.questions.specs.Questions.{SenderAnswer}
 use Rattle.enquirer.specs.declared.Enquirer.{Enquirer}
 use Rattle.answer.specs.declared.Enquiry.{Enquiry}
 use Rattle.enquirer.proofs.Held.{Held, held, Owned, slice-of, OwnedSlice, lends}
@@ -47,10 +47,10 @@ use Rattle.enquirer.proofs.Enquirer as T
 use Rattle.enquirer.proofs.Enquirer.Laws as T′
 use Rattle.answer.proofs.Enquiry as S
 use Rattle.answer.proofs.Enquiry.Laws as S′
-use Rattle.enquirer.proofs.sender_question.best_sender_in as best-in
-use Rattle.enquirer.proofs.sender_question.best_sender_in.Symbol as best-in-def
-use Rattle.enquirer.proofs.sender_question.best_sender_in.Symbol.{name as #enquirer·best-sender-in}
-use Rattle.enquirer.proofs.sender_question.best_sender_in.Met as best-in-thm
+use Rattle.questions.proofs.sender_question.best_sender_in as best-in
+use Rattle.questions.proofs.sender_question.best_sender_in.Symbol as best-in-def
+use Rattle.questions.proofs.sender_question.best_sender_in.Symbol.{name as #enquirer·best-sender-in}
+use Rattle.questions.proofs.sender_question.best_sender_in.Met as best-in-thm
 use Rattle.enquirer.proofs.Enquirer.best_sender.Key.{name as #enquirer·best-sender}
 use Rattle.enquirer.proofs.Enquirer.best_sender as best
 use Rattle.enquirer.proofs.Enquirer.best_sender.Statement as stated
@@ -149,4 +149,4 @@ best-sender-spec 𝓤 H 𝓜 𝓖 𝓡 =
     entered 𝓤 H (tripleOf 𝓤 H (𝓖 .A) best.signature (best.spec 𝓤 H (𝓖 .A) (𝓜 .mem) (𝓡 .run)))
     (tables 𝓤 H 𝓜 𝓡 code.env .C) (tables 𝓤 H 𝓜 𝓡 code.env .Λ) #enquirer·best-sender code.function (code.unfolded 𝓤 H 𝓜 𝓡)
     (best-meets 𝓤 H (𝓖 .A) (givenOf 𝓤 H 𝓜 𝓖) (𝓜 .mem) (𝓡 .run) (tablesOf 𝓤 H 𝓜 (tables 𝓤 H 𝓜 𝓡 code.env))
-    (cited 𝓤 H (BestIn 𝓤 H (𝓖 .A) (𝓜 .mem) (𝓡 .run)) 𝓜 𝓡 code.env #enquirer·best-sender-in best-in-def.routine code.calls-enquirer·sender-question·best-sender-in (best-in-thm.met 𝓤 H 𝓜 𝓖 𝓡)))
+    (cited 𝓤 H (BestIn 𝓤 H (𝓖 .A) (𝓜 .mem) (𝓡 .run)) 𝓜 𝓡 code.env #enquirer·best-sender-in best-in-def.routine code.calls-questions·sender-question·best-sender-in (best-in-thm.met 𝓤 H 𝓜 𝓖 𝓡)))

@@ -40,7 +40,7 @@ use denote.Triple.Walked.{says, Stays, stay-none, walkOf, goes-none, Walks, ends
 use denote.Exit.{yes}
 use denote.Triple.Clauses.{ensured, lasts}
 use Rattle.answer.specs.Stated.{statedEnquiry}
-use Rattle.enquirer.specs.Questions.{cellAnswer}
+use Rattle.questions.specs.Questions.{cellAnswer}
 use Rattle.enquirer.specs.declared.Enquirer.{Enquirer}
 use Rattle.answer.specs.declared.Enquiry.{Enquiry}
 use Rattle.enquirer.proofs.Held.{Held, held, Owned, slice-of, OwnedSlice, lends}
@@ -48,10 +48,10 @@ use Rattle.enquirer.proofs.Enquirer as T
 use Rattle.enquirer.proofs.Enquirer.Laws as T′
 use Rattle.answer.proofs.Enquiry as S
 use Rattle.answer.proofs.Enquiry.Laws as S′
-use Rattle.enquirer.proofs.cell_question.cell_in as cell-in
-use Rattle.enquirer.proofs.cell_question.cell_in.Symbol as cell-in-def
-use Rattle.enquirer.proofs.cell_question.cell_in.Symbol.{name as #enquirer·cell-in}
-use Rattle.enquirer.proofs.cell_question.cell_in.Met as cell-in-thm
+use Rattle.questions.proofs.cell_question.cell_in as cell-in
+use Rattle.questions.proofs.cell_question.cell_in.Symbol as cell-in-def
+use Rattle.questions.proofs.cell_question.cell_in.Symbol.{name as #enquirer·cell-in}
+use Rattle.questions.proofs.cell_question.cell_in.Met as cell-in-thm
 use Rattle.enquirer.proofs.Enquirer.cell.Key.{name as #enquirer·cell}
 use Rattle.enquirer.proofs.Enquirer.cell as cell
 use Rattle.enquirer.proofs.Enquirer.cell.Statement as stated
@@ -152,4 +152,4 @@ cell-spec 𝓤 H 𝓜 𝓖 𝓡 =
     entered 𝓤 H (tripleOf 𝓤 H (𝓖 .A) cell.signature (cell.spec 𝓤 H (𝓖 .A) (𝓜 .mem) (𝓡 .run)))
     (tables 𝓤 H 𝓜 𝓡 code.env .C) (tables 𝓤 H 𝓜 𝓡 code.env .Λ) #enquirer·cell code.function (code.unfolded 𝓤 H 𝓜 𝓡)
     (cell-meets 𝓤 H (𝓖 .A) (givenOf 𝓤 H 𝓜 𝓖) (𝓜 .mem) (𝓡 .run) (tablesOf 𝓤 H 𝓜 (tables 𝓤 H 𝓜 𝓡 code.env))
-    (cited 𝓤 H (CellIn 𝓤 H (𝓖 .A) (𝓜 .mem) (𝓡 .run)) 𝓜 𝓡 code.env #enquirer·cell-in cell-in-def.routine code.calls-enquirer·cell-question·cell-in (cell-in-thm.met 𝓤 H 𝓜 𝓖 𝓡)))
+    (cited 𝓤 H (CellIn 𝓤 H (𝓖 .A) (𝓜 .mem) (𝓡 .run)) 𝓜 𝓡 code.env #enquirer·cell-in cell-in-def.routine code.calls-questions·cell-question·cell-in (cell-in-thm.met 𝓤 H 𝓜 𝓖 𝓡)))

@@ -11,7 +11,7 @@ use cost_table::cheapest::cheapest_node;
 use limits::Cost;
 use subset::Subset;
 ghost use Rattle.answer.specs.Stated.{statedEnquiry};
-ghost use Rattle.enquirer.specs.Questions.{SenderAnswer};
+ghost use Rattle.questions.specs.Questions.{SenderAnswer};
 
 // A site whose cell of the set w is least and finite, or none.
 pub fn best_sender_in(cells: &[Cost], n: u32, k: u32, w: u32) -> Enquiry

@@ -1,4 +1,4 @@
--- `enquirer::sender_question::best_sender_in` meets its contract: the tests in their order, then the cheapest site, where its cell is finite.
+-- `questions::sender_question::best_sender_in` meets its contract: the tests in their order, then the cheapest site, where its cell is finite.
 -- Assumes nothing.
 use Prim.Native.Nat.{ℕ, _*_, _^_, _≤_, _<_}
 use mathlib.Core.Path.{_≡_, refl, sym, _∙_, subst, transport⁻¹}
@@ -12,10 +12,10 @@ use Rattle.limits.specs.Limits.{maxSubsets}
 use Rattle.answer.specs.Stated.{sender, noSender}
 use Rattle.cost_table.specs.Cheapest.{columnIn}
 use Rattle.cost_table.specs.Rows.{place-lt}
-use Rattle.enquirer.specs.Questions.{inRange}
-use Rattle.enquirer.specs.Tested.{Range, ranged, few-sets, sender-head, sender-short, sender-set, sender-stands, sends-cheapest, sends-none}
-use Rattle.enquirer.proofs.sender_question.best_sender_in.Statement.{statement}
-use Rattle.enquirer.proofs.sender_question.best_sender_in.Tie as tie
+use Rattle.questions.specs.Questions.{inRange}
+use Rattle.questions.specs.laws.Tested.{Range, ranged, few-sets, sender-head, sender-short, sender-set, sender-stands, sends-cheapest, sends-none}
+use Rattle.questions.proofs.sender_question.best_sender_in.Statement.{statement}
+use Rattle.questions.proofs.sender_question.best_sender_in.Tie as tie
 
 -- what is known after each test that is passed
 in-range : (c : tie.Else1) → let a = c .before .before .before .args in inRange (a .n) (a .k) ≡ true

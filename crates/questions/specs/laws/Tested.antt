@@ -16,7 +16,7 @@ use Rattle.lists.specs.Tests.{both-true}
 use Rattle.answer.specs.Stated.{Stated, cell, sender, noSender, refused, ofSheet, ofTables}
 use Rattle.cost_table.specs.Cells.{cellIn}
 use Rattle.cost_table.specs.Cheapest.{columnIn, LowestTo}
-use Rattle.enquirer.specs.Questions.{inRange, cellAnswer, BestSender, NoneFinite, Sends, SenderAnswer}
+use Rattle.questions.specs.Questions.{inRange, cellAnswer, BestSender, NoneFinite, Sends, SenderAnswer}
 
 -- ---- the numbers
 

@@ -1,4 +1,4 @@
--- `enquirer::cell_question::cell_in` meets its contract: the tests in their order, then the cell, which lies in the table.
+-- `questions::cell_question::cell_in` meets its contract: the tests in their order, then the cell, which lies in the table.
 -- Assumes nothing.
 use Prim.Native.Nat.{ℕ, _*_, _^_, _≤_, _<_}
 use mathlib.Core.Path.{_≡_, sym, ap, _∙_, subst}
@@ -11,10 +11,10 @@ use borrow.Author.Tests.{not-true, not-false, leb-true, leb-false}
 use Rattle.limits.specs.Limits.{maxSubsets}
 use Rattle.answer.specs.Stated.{cell}
 use Rattle.cost_table.specs.Rows.{place-lt}
-use Rattle.enquirer.specs.Questions.{inRange}
-use Rattle.enquirer.specs.Tested.{Range, ranged, few-sets, cell-head, cell-short, cell-site, cell-set, cell-stands}
-use Rattle.enquirer.proofs.cell_question.cell_in.Statement.{statement}
-use Rattle.enquirer.proofs.cell_question.cell_in.Tie as tie
+use Rattle.questions.specs.Questions.{inRange}
+use Rattle.questions.specs.laws.Tested.{Range, ranged, few-sets, cell-head, cell-short, cell-site, cell-set, cell-stands}
+use Rattle.questions.proofs.cell_question.cell_in.Statement.{statement}
+use Rattle.questions.proofs.cell_question.cell_in.Tie as tie
 
 -- what is known after each test that is passed
 in-range : (c : tie.Else1) → let a = c .before .before .before .args in inRange (a .n) (a .k) ≡ true

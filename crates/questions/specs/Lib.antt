@@ -2,4 +2,4 @@
 pub mod Questions
 pub mod Worked
 -- the answers by the tests that are made
-pub mod Tested
+pub mod laws

@@ -4,7 +4,7 @@ ghost use mathlib.Core.Path.{_≡_};
 ghost use Prim.Native.Nat.{_*_, _^_, _≤_};
 ghost use lib.Dec.{leb};
 ghost use Rattle.limits.specs.Limits.{maxNodes, maxTerminals, maxSubsets};
-ghost use Rattle.enquirer.specs.Questions.{inRange};
+ghost use Rattle.questions.specs.Questions.{inRange};
 
 // Whether a sheet may have n sites and k stations.
 pub fn in_range(n: u32, k: u32) -> bool

@@ -1,11 +1,11 @@
--- `enquirer::ranges::sets_for` meets its contract. There are at most 1,024 sets.
+-- `questions::ranges::sets_for` meets its contract. There are at most 1,024 sets.
 -- Assumes nothing.
 use native.Mathlib.Omega.{arith}
 use lib.Pow.{pow-mono}
 use borrow.Author.Needs.{needs}
 use Rattle.limits.specs.Limits.{maxTerminals}
-use Rattle.enquirer.proofs.ranges.sets_for.Statement.{statement}
-use Rattle.enquirer.proofs.ranges.sets_for.Tie as tie
+use Rattle.questions.proofs.ranges.sets_for.Statement.{statement}
+use Rattle.questions.proofs.ranges.sets_for.Tie as tie
 
 cast-sets-of : tie.Need-cast-sets-of
 cast-sets-of c = search needs

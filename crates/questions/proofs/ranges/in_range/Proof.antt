@@ -1,9 +1,9 @@
--- `enquirer::ranges::in_range` meets its contract. Each return has the tests that led to it.
+-- `questions::ranges::in_range` meets its contract. Each return has the tests that led to it.
 -- Assumes nothing.
 use borrow.Author.Needs.{needs}
 use borrow.Author.Tests.{le-leb, lt-leb}
-use Rattle.enquirer.proofs.ranges.in_range.Statement.{statement}
-use Rattle.enquirer.proofs.ranges.in_range.Tie as tie
+use Rattle.questions.proofs.ranges.in_range.Statement.{statement}
+use Rattle.questions.proofs.ranges.in_range.Tie as tie
 
 cast-if1 : tie.Need-cast-if1
 cast-if1 c = search needs

@@ -13,7 +13,7 @@ use Rattle.limits.specs.Limits.{noCost}
 use Rattle.lists.specs.Find.{allTo, all-at}
 use Rattle.lists.specs.Tests.{and-left, and-right}
 use Rattle.answer.specs.Stated.{cell, sender, noSender, refused, ofSheet, ofTables}
-use Rattle.enquirer.specs.Questions.{cellAnswer, BestSender, NoneFinite, SenderAnswer}
+use Rattle.questions.specs.Questions.{cellAnswer, BestSender, NoneFinite, SenderAnswer}
 
 -- ---- tests of small tables
 

@@ -11,7 +11,7 @@ use limits::Cost;
 use subset::Subset;
 ghost use mathlib.Core.Path.{_≡_};
 ghost use Rattle.answer.specs.Stated.{statedEnquiry};
-ghost use Rattle.enquirer.specs.Questions.{cellAnswer};
+ghost use Rattle.questions.specs.Questions.{cellAnswer};
 
 // The cell of site v and the set w.
 pub fn cell_in(cells: &[Cost], n: u32, k: u32, v: u32, w: u32) -> Enquiry

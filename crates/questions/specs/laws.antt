@@ -1,0 +1,2 @@
+-- the answers by the tests that are made
+pub mod Tested
