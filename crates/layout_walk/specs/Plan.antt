@@ -1,10 +1,8 @@
 -- The arcs of a plan, and what the laying out of one rests on (document 01, "Laying out a plan").
 -- Assumes nothing.
 use Prim.Native.Nat.{ℕ, _*_, _^_, _≤_}
-use mathlib.Core.Option.{none}
 use mathlib.Core.List.{List}
 use lib.ListN.{length}
-use lib.Seq.{sets}
 use Rattle.limits.specs.Limits.{maxTerminals, noCost}
 use Rattle.lent_tables.specs.SheetTables.{SheetTables, Long}
 use Rattle.graph.specs.Graph.{Graph, Sound}

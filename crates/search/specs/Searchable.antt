@@ -1,6 +1,6 @@
--- What is asked of the loaded tables.
+-- What a search asks of the tables that hold a sheet.
 -- Assumes nothing.
-use Prim.Native.Nat.{ℕ, _-_, _≤_, _<_}
+use Prim.Native.Nat.{ℕ, _≤_, _<_}
 use Rattle.limits.specs.Limits.{maxNodes, maxTerminals, maxWeight}
 use Rattle.lent_tables.specs.SheetTables.{SheetTables, Long}
 use Rattle.graph.specs.Graph.{Sound}

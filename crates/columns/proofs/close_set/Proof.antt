@@ -6,11 +6,6 @@ use denote.Ref.{now}
 use Rattle.columns.specs.laws.ClosedCells.{set-closed, taken-arcs, taken-low, settled-fits}
 use Rattle.columns.proofs.close_set.Statement.{statement}
 use Rattle.columns.proofs.close_set.Tie as tie
-use Rattle.columns.proofs.close_set.Reads as reads
-use Rattle.columns.proofs.close_set.Lts as lts
-use Rattle.columns.proofs.put_column.Reads as put-column-reads
-use Rattle.settling.proofs.settle.Reads as settle-reads
-use Rattle.columns.proofs.take_column.Reads as take-column-reads
 
 take-column-requires : tie.Need-take-column-requires
 take-column-requires c κs = search needs

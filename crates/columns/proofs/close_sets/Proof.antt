@@ -12,9 +12,6 @@ use Rattle.order_ranges.specs.laws.InOrder.{in-order, set-at, set-lt}
 use Rattle.columns.specs.laws.ClosedCells.{SetsClosed, set-ready, sets-ready, sets-none, sets-over, sets-next, sets-all}
 use Rattle.columns.proofs.close_sets.Statement.{statement}
 use Rattle.columns.proofs.close_sets.Tie as tie
-use Rattle.columns.proofs.close_sets.Reads as reads
-use Rattle.columns.proofs.close_sets.Lts as lts
-use Rattle.columns.proofs.close_set.Reads as close-set-reads
 
 abbrev Inv-loop : tie.InvT-loop
 Inv-loop sets starts ends weights arcs size first last cells₀ column₀ position₀ cells column position =
@@ -64,7 +61,7 @@ loop-again c =
       omega (arith, on),
       ⊎-elim (λ t. ap length (t .9) ∙ t .3 .kept .1 .1 .1 .1 .1 .1 .1 .0 ∙ l .2) (λ t. ap length (t .2) ∙ l .2) (c .if1 .came),
       ⊎-elim (λ t. sets-next _ in-order (p .1 .0) (l .0) on (l .3) (p .1 .2) here (t .0 .taken) (l .2) (t .3 .ensures) (t .8))
-      (λ t. sets-over _ in-order (p .1 .0) (l .0) on (l .3) here (t .0 .left) (t .1)) (c .if1 .came),
+          (λ t. sets-over _ in-order (p .1 .0) (l .0) on (l .3) here (t .0 .left) (t .1)) (c .if1 .came),
     )
 
 same-length : tie.Need-same-length Inv-loop μ-loop

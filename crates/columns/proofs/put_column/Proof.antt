@@ -8,8 +8,6 @@ use Rattle.columns.specs.laws.ColumnPut.{ColumnPut, put-none, put-more, 
 use Rattle.cost_table.specs.Rows.{place-lt}
 use Rattle.columns.proofs.put_column.Statement.{statement}
 use Rattle.columns.proofs.put_column.Tie as tie
-use Rattle.columns.proofs.put_column.Reads as reads
-use Rattle.columns.proofs.put_column.Lts as lts
 
 abbrev Inv-loop : tie.InvT-loop
 Inv-loop column size w cells₀ v₀ cells v = (v ≤ length column) × ColumnPut size w column v cells₀ cells

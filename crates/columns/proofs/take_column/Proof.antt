@@ -11,8 +11,6 @@ use Rattle.cost_table.specs.Cells.{cellIn}
 use Rattle.cost_table.specs.Rows.{place-lt}
 use Rattle.columns.proofs.take_column.Statement.{statement}
 use Rattle.columns.proofs.take_column.Tie as tie
-use Rattle.columns.proofs.take_column.Reads as reads
-use Rattle.columns.proofs.take_column.Lts as lts
 
 abbrev Inv-loop : tie.InvT-loop
 Inv-loop cells size w column₀ v₀ column v = (v ≤ length column₀) × ValuesTo (λ u. cellIn cells size u w) v column₀ column

@@ -13,9 +13,9 @@ use Rattle.lent_tables.specs.SheetTables.{SheetTables}
 use Rattle.cost_table.specs.Cells.{cellIn}
 use Rattle.cost_table.specs.Rows.{place-lt, place-of}
 use Rattle.working_none.specs.laws.WorkingNone.{workingNone}
+use Rattle.working_none.specs.laws.Low.{entry, AllLow}
 use Rattle.order_ranges.specs.laws.Ranges.{Ordered, OneSize, Outside, Inside, shorter, inside-or-out}
 use Rattle.settling.specs.laws.ClosedOver.{ArcFrom, ClosedOver}
-use Rattle.working_none.specs.laws.Low.{entry, AllLow}
 use Rattle.settling.specs.laws.Arcs.{startAt, endAt, weightAt, ArcTables}
 use Rattle.settling.specs.laws.Passes.{Settled}
 use Rattle.columns.specs.laws.ColumnPut.{ColumnPut}
@@ -28,7 +28,7 @@ cells-low n size cells whole low i l =
     let (v, w, on, small, e) = place-of n size i (omega arith) in
     subst (λ (x : ℕ). entry cells x ≤ workingNone) e (low v w on small)
 
-pub low-cells : (n size : ℕ) (cells : List ℕ) → length cells ≡ n * size → AllLow cells → (v w : ℕ) → v < n → w < size → cellIn cells size v w ≤ workingNone
+low-cells : (n size : ℕ) (cells : List ℕ) → length cells ≡ n * size → AllLow cells → (v w : ℕ) → v < n → w < size → cellIn cells size v w ≤ workingNone
 low-cells n size cells whole low v w on small = low (v * size + w) (place-lt v n size w (length cells) on small (omega arith))
 
 -- the cells of the nodes are all that counts

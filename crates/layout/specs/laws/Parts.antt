@@ -8,7 +8,7 @@ use mathlib.Core.Option.{none, some}
 use mathlib.Core.List.{List, _++_}
 use native.Mathlib.Omega.{arith}
 use lib.Dec.{T}
-use lib.ListN.{length, set, length-append}
+use lib.ListN.{length, length-append}
 use Rattle.limits.specs.Limits.{noCost}
 use Rattle.lists.specs.Find.{first}
 use Rattle.lists.specs.Tests.{not-both}

@@ -6,7 +6,7 @@ use mathlib.Core.Option.{some}
 use mathlib.Core.List.{List, _++_}
 use native.Mathlib.Omega.{arith}
 use lib.Pow.{ones-lt}
-use lib.ListN.{length, set}
+use lib.ListN.{length}
 use Rattle.limits.specs.Limits.{noCost}
 use Rattle.lists.specs.Find.{first}
 use Rattle.lists.specs.Over.{over}
@@ -19,13 +19,13 @@ use Rattle.graph.specs.Layout.{splits}
 use Rattle.graph.specs.Theorems.{layout-is-least}
 use Rattle.cost_table.specs.Cells.{cellIn}
 use Rattle.layout_steps.specs.Steps.{splitsIn, foundAs}
-use Rattle.layout_walk.specs.Plan.{cellsFor, laid, Ready}
-use Rattle.layout_walk.specs.laws.Walk.{Placed, Unfollowed, Stored}
 use Rattle.layout_steps.specs.laws.Tests.{found-some, found-none}
-use Rattle.layout_walk.specs.laws.Arcs.{load, stored-both, stored-length, stored-over}
-use Rattle.layout.specs.laws.Parts.{part-there, part-within, both-laid, part-placed, rest-placed, part-falls, rest-falls}
 use Rattle.layout_steps.specs.declared.Found.{Found}
 use Rattle.layout_steps.specs.declared.Found.the-variants.{At, Nothing}
+use Rattle.layout_walk.specs.Plan.{cellsFor, laid, Ready}
+use Rattle.layout_walk.specs.laws.Walk.{Placed, Unfollowed, Stored}
+use Rattle.layout_walk.specs.laws.Arcs.{load, stored-both, stored-length, stored-over}
+use Rattle.layout.specs.laws.Parts.{part-there, part-within, both-laid, part-placed, rest-placed, part-falls, rest-falls}
 
 module _ {n k m : ℕ} {t : SheetTables} {cells : List ℕ} (ready : Ready n k m t cells) where
   -- the graph that the tables hold

@@ -1,6 +1,6 @@
 -- Following over lent tables, as code does it: what the answers of the test and the search lead to.
 -- Assumes nothing.
-use Prim.Native.Nat.{ℕ, _+_, _-_, _*_, _^_, _<_}
+use Prim.Native.Nat.{ℕ, _+_, _*_, _^_, _<_}
 use mathlib.Core.Path.{_≡_, sym, _∙_, subst}
 use mathlib.Core.Bool.{Bool, true, false, not, true≢false, false≢true}
 use mathlib.Core.Option.{some}
@@ -12,19 +12,18 @@ use lib.ListN.{length, getD, set}
 use Rattle.limits.specs.Limits.{noCost}
 use Rattle.lists.specs.Find.{first}
 use Rattle.lists.specs.Tests.{true-fact, false-not-fact}
-use Rattle.lists.specs.Over.{over}
 use Rattle.lent_tables.specs.SheetTables.{SheetTables, arcTablesOf, arcs-long}
 use Rattle.graph.specs.Graph.{Graph}
 use Rattle.graph.specs.HeldGraph.{graphIn, end-in}
 use Rattle.graph.specs.Layout.{isDone, fits}
 use Rattle.layout_steps.specs.Steps.{doneAt, fitsIn, foundAs, ArcsHeld}
-use Rattle.layout_walk.specs.Plan.{cellsFor, Ready}
-use Rattle.layout_walk.specs.laws.Walk.{Walked, Stopped}
 use Rattle.layout_steps.specs.laws.Tests.{done-in, found-some, found-none}
-use Rattle.layout_walk.specs.laws.Arcs.{load, arc-on, arc-room, arc-falls}
-use Rattle.layout_walk.specs.laws.Walking.{walked-arc}
 use Rattle.layout_steps.specs.declared.Found.{Found}
 use Rattle.layout_steps.specs.declared.Found.the-variants.{At, Nothing}
+use Rattle.layout_walk.specs.Plan.{cellsFor, Ready}
+use Rattle.layout_walk.specs.laws.Walk.{Walked, Stopped}
+use Rattle.layout_walk.specs.laws.Arcs.{load, arc-on, arc-room, arc-falls}
+use Rattle.layout_walk.specs.laws.Walking.{walked-arc}
 
 module _ {n k m : ℕ} {t : SheetTables} {cells : List ℕ} (ready : Ready n k m t cells) where
   -- the graph that the tables hold

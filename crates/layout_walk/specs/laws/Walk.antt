@@ -5,15 +5,15 @@ use Prim.Native.Nat.{ℕ, _≤_, _+_, _^_, _<_}
 use mathlib.Core.Path.{_≡_}
 use mathlib.Core.Bool.{Bool, true, false, not}
 use mathlib.Core.List.{List, _++_}
+use mathlib.Core.Option.{none}
 use lib.Dec.{T}
 use lib.ListN.{length}
-use Rattle.graph.specs.Graph.{Graph}
-use Rattle.graph.specs.Layout.{isDone, fits}
-use Rattle.layout_walk.specs.Plan.{cellsFor, laid}
-use mathlib.Core.Option.{none}
 use lib.Seq.{sets}
 use Rattle.limits.specs.Limits.{noCost}
 use Rattle.lists.specs.Find.{first}
+use Rattle.graph.specs.Graph.{Graph}
+use Rattle.graph.specs.Layout.{isDone, fits}
+use Rattle.layout_walk.specs.Plan.{cellsFor, laid}
 
 -- v is a node and w a set with a finite cell, and their arcs have room between the place `at` and the end of a table
 pub record Placed (G : Graph) (cells : List ℕ) (v w at size : ℕ) : Type 0 where

@@ -8,8 +8,6 @@ use Rattle.working_none.specs.laws.Low.{entry}
 use Rattle.rows.specs.laws.BestSplit.{Tried, tried-none, tried-next, tried-all}
 use Rattle.rows.proofs.best_split.Statement.{statement}
 use Rattle.rows.proofs.best_split.Tie as tie
-use Rattle.rows.proofs.best_split.Reads as reads
-use Rattle.rows.proofs.best_split.Lts as lts
 
 abbrev Inv-loop : tie.InvT-loop
 Inv-loop row w best₀ y₀ best y = Tried (entry row) w y best
@@ -48,7 +46,12 @@ shared-slice-read-sum-2 : tie.Need-shared-slice-read-sum-2 Inv-loop μ-loop
 shared-slice-read-sum-2 c = omega (arith, c .before .before .before .loop .inv .below, c .before .before .before .before .before .pre .1)
 
 add-sum : tie.Need-add-sum Inv-loop μ-loop
-add-sum c = omega (arith, c .before .before .before .loop .inv .below, c .before .before .before .before .before .pre .3 (c .before .before .before .loop .y) (omega (arith, c .before .before .before .loop .inv .below, c .before .before .before .before .before .pre .1)), c .before .before .before .before .before .pre .3 (c .before .before .before .before .before .args .w - c .before .before .before .loop .y) (omega (arith, c .before .before .before .loop .inv .below, c .before .before .before .before .before .pre .1)))
+add-sum c =
+    let p = c .before .before .before .before .before .pre in
+    let w = c .before .before .before .before .before .args .w in
+    let y = c .before .before .before .loop .y in
+    let less = c .before .before .before .loop .inv .below in
+    omega (arith, less, p .3 y (omega (arith, less, p .1)), p .3 (w - y) (omega (arith, less, p .1)))
 
 sub-y-2 : tie.Need-sub-y-2 Inv-loop μ-loop
 sub-y-2 c = omega (arith, c .before .before .before .loop-test .taken)

@@ -9,9 +9,6 @@ use Rattle.order_ranges.specs.laws.InOrder.{in-order, not-empty, set-at, set-lt
 use Rattle.rows.specs.laws.SplitRow.{SplitRow, split-none, split-over, split-next, split-low, split-all}
 use Rattle.rows.proofs.split_row.Statement.{statement}
 use Rattle.rows.proofs.split_row.Tie as tie
-use Rattle.rows.proofs.split_row.Reads as reads
-use Rattle.rows.proofs.split_row.Lts as lts
-use Rattle.rows.proofs.best_split.Reads as best-split-reads
 
 abbrev Inv-loop : tie.InvT-loop
 Inv-loop sets row₀ first last position₀ row position = (first ≤ position) × (position ≤ last) × SplitRow inOrder first position row₀ row
@@ -32,7 +29,19 @@ cast-w : tie.Need-cast-w Inv-loop μ-loop
 cast-w c = omega (arith, c .shared-slice-known2 .given (c .before .before .loop .position))
 
 best-split-requires : tie.Need-best-split-requires Inv-loop μ-loop
-best-split-requires c κs = (omega (arith, not-empty (c .before .before .before .before .loop .position) (omega (arith, c .before .before .before .before .loop .inv .0, c .before .before .before .before .before .before .before .pre .1)) (omega (arith, c .before .before .before .loop-test .taken, c .before .before .before .before .before .before .before .pre .2 .bound)), set-at (c .before .before .before .before .before .before .before .pre .0) (c .before .before .before .before .before .before .before .pre .2) (c .before .before .before .loop-test .taken)), c .before .if1 .taken, omega (arith, c .before .before .before .before .loop .inv .2 .same-length, c .before .before .before .before .before .before .before .pre .3), split-low _ in-order (c .before .before .before .before .before .before .before .pre .2) (c .before .before .before .before .before .before .before .pre .3) (c .before .before .before .before .loop .inv .0) (c .before .before .before .before .loop .inv .1) (c .before .before .before .before .loop .inv .2) (c .before .before .before .before .before .before .before .pre .4))
+best-split-requires c κs =
+    let p = c .before .before .before .before .before .before .before .pre in
+    let l = c .before .before .before .before .loop in
+    let on = c .before .before .before .loop-test .taken in (
+      omega (
+        arith,
+        not-empty (l .position) (omega (arith, l .inv .0, p .1)) (omega (arith, on, p .2 .bound)),
+        set-at (p .0) (p .2) on,
+      ),
+      c .before .if1 .taken,
+      omega (arith, l .inv .2 .same-length, p .3),
+      split-low _ in-order (p .2) (p .3) (l .inv .0) (l .inv .1) (l .inv .2) (p .4),
+    )
 
 mul-row : tie.Need-mul-row Inv-loop μ-loop
 mul-row c = search needs
@@ -47,7 +56,16 @@ loop-less : tie.Need-loop-less Inv-loop μ-loop
 loop-less c = search needs
 
 loop-again : tie.Need-loop-again Inv-loop μ-loop
-loop-again c = (omega (arith, c .before .before .before .loop .inv .0), omega (arith, c .before .before .loop-test .taken), ⊎-elim (λ t. split-next _ in-order (c .before .before .before .before .before .before .pre .2) (c .before .before .before .loop .inv .0) (c .before .before .loop-test .taken) (c .before .before .before .loop .inv .2) (set-at (c .before .before .before .before .before .before .pre .0) (c .before .before .before .before .before .before .pre .2) (c .before .before .loop-test .taken)) (t .0 .taken) (t .2 .ensures) (t .3)) (λ t. split-over _ in-order (c .before .before .before .before .before .before .pre .2) (c .before .before .before .loop .inv .0) (c .before .before .loop-test .taken) (c .before .before .before .loop .inv .2) (set-at (c .before .before .before .before .before .before .pre .0) (c .before .before .before .before .before .before .pre .2) (c .before .before .loop-test .taken)) (t .0 .left) (t .1)) (c .if1 .came))
+loop-again c =
+    let p = c .before .before .before .before .before .before .pre in
+    let l = c .before .before .before .loop .inv in
+    let on = c .before .before .loop-test .taken in
+    let here = set-at (p .0) (p .2) on in (
+      omega (arith, l .0),
+      omega (arith, on),
+      ⊎-elim (λ t. split-next _ in-order (p .2) (l .0) on (l .2) here (t .0 .taken) (t .2 .ensures) (t .3))
+          (λ t. split-over _ in-order (p .2) (l .0) on (l .2) here (t .0 .left) (t .1)) (c .if1 .came),
+    )
 
 same-length : tie.Need-same-length Inv-loop μ-loop
 same-length c = c .before .loop .inv .2 .same-length

@@ -8,9 +8,6 @@ use Rattle.rows.specs.laws.Rows.{EachRow, row-small, rows-none, lent-len
 use Rattle.rows.specs.laws.SplitRow.{SplitRow}
 use Rattle.rows.proofs.split_rows.Statement.{statement}
 use Rattle.rows.proofs.split_rows.Tie as tie
-use Rattle.rows.proofs.split_rows.Reads as reads
-use Rattle.rows.proofs.split_rows.Lts as lts
-use Rattle.rows.proofs.split_row.Reads as split-row-reads
 
 abbrev Inv-loop : tie.InvT-loop
 Inv-loop sets n size first last cells₀ v₀ cells v = (v ≤ n) × EachRow (λ v. SplitRow inOrder first last) n size v cells₀ cells
@@ -40,7 +37,11 @@ part-split-row-end : tie.Need-part-split-row-end Inv-loop μ-loop
 part-split-row-end c = omega (arith, row-small (c .before .loop .v) _ _ (c .loop-test .taken) (c .before .before .before .before .pre .1) (c .before .before .before .before .pre .2), c .before .before .before .before .pre .3, c .before .loop .inv .1 .same-length)
 
 split-row-requires : tie.Need-split-row-requires Inv-loop μ-loop
-split-row-requires c κs = (c .before .before .before .before .before .pre .0, c .before .before .before .before .before .pre .4, c .before .before .before .before .before .pre .5, omega (arith, lent-length (c .before .before .before .before .before .pre .3) (c .before .loop-test .taken) (c .before .before .loop .inv .1), c .before .before .before .before .before .pre .2), lent-low (c .before .before .before .before .before .pre .3) (c .before .loop-test .taken) (c .before .before .loop .inv .1) (c .before .before .before .before .before .pre .6))
+split-row-requires c κs =
+    let p = c .before .before .before .before .before .pre in
+    let l = c .before .before .loop .inv .1 in
+    let on = c .before .loop-test .taken in
+    (p .0, p .4, p .5, omega (arith, lent-length (p .3) on l, p .2), lent-low (p .3) on l (p .6))
 
 add-v : tie.Need-add-v Inv-loop μ-loop
 add-v c = omega (arith, c .before .before .before .before .loop-test .taken, c .before .before .before .before .before .before .before .before .pre .1)

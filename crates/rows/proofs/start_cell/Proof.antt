@@ -5,10 +5,6 @@ use mathlib.Core.Path.{sym, _∙_}
 use Rattle.rows.specs.laws.Start.{start-empty, start-one, start-more, start-apart}
 use Rattle.rows.proofs.start_cell.Statement.{statement}
 use Rattle.rows.proofs.start_cell.Tie as tie
-use Rattle.rows.proofs.start_cell.Reads as reads
-use Rattle.rows.proofs.start_cell.Lts as lts
-use Rattle.subset.proofs.Subset.is_part_of.Reads as is-part-of-reads
-use Rattle.subset.proofs.Subset.size.Reads as size-reads
 
 returns : tie.Need-returns
 returns c = start-empty _ _ (c .if1 .taken)

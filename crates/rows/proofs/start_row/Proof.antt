@@ -8,9 +8,6 @@ use Rattle.lists.specs.Values.{ValuesTo, no-values, next-value, all-values}
 use Rattle.rows.specs.laws.Start.{startCell}
 use Rattle.rows.proofs.start_row.Statement.{statement}
 use Rattle.rows.proofs.start_row.Tie as tie
-use Rattle.rows.proofs.start_row.Reads as reads
-use Rattle.rows.proofs.start_row.Lts as lts
-use Rattle.rows.proofs.start_cell.Reads as start-cell-reads
 
 abbrev Inv-loop : tie.InvT-loop
 Inv-loop landings row₀ w₀ row w = (w ≤ length row₀) × ValuesTo (startCell (landings .0)) w row₀ row

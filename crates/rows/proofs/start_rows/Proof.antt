@@ -6,10 +6,6 @@ use borrow.Author.Needs.{needs}
 use Rattle.rows.specs.laws.Rows.{EachRow, StartRow, started-row, row-small, rows-none, lent-length, rows-next, rows-all}
 use Rattle.rows.proofs.start_rows.Statement.{statement}
 use Rattle.rows.proofs.start_rows.Tie as tie
-use Rattle.rows.proofs.start_rows.Reads as reads
-use Rattle.rows.proofs.start_rows.Lts as lts
-use Rattle.rows.proofs.start_row.Reads as start-row-reads
-use Rattle.subset.proofs.terminals_in.Reads as terminals-in-reads
 
 abbrev Inv-loop : tie.InvT-loop
 Inv-loop landings n size cells₀ v₀ cells v = (v ≤ n) × EachRow (StartRow landings) n size v cells₀ cells
@@ -57,7 +53,12 @@ loop-less : tie.Need-loop-less Inv-loop μ-loop
 loop-less c = search needs
 
 loop-again : tie.Need-loop-again Inv-loop μ-loop
-loop-again c = (omega (arith, c .before .before .before .before .before .before .loop-test .taken), rows-next (c .before .before .before .before .before .before .before .before .before .before .pre .2) (c .before .before .before .before .before .before .loop-test .taken) (c .before .before .before .before .before .before .before .loop .inv .1) (c .before .cells .given .0) (started-row (c .before .before .before .before .terminals-in .ensures) (c .before .before .start-row .ensures)))
+loop-again c =
+    let on = c .before .before .before .before .before .before .loop-test .taken in (
+      omega (arith, on),
+      rows-next (c .before .before .before .before .before .before .before .before .before .before .pre .2) on (c .before .before .before .before .before .before .before .loop .inv .1) (c .before .cells .given .0)
+          (started-row (c .before .before .before .before .terminals-in .ensures) (c .before .before .start-row .ensures)),
+    )
 
 same-length : tie.Need-same-length Inv-loop μ-loop
 same-length c = c .before .loop .inv .1 .same-length

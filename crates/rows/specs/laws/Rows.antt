@@ -14,8 +14,8 @@ use Rattle.limits.specs.Limits.{maxNodes, maxSubsets}
 use Rattle.lists.specs.Numbers.{numbers}
 use Rattle.subset.specs.Sets.{terminalsIn}
 use Rattle.cost_table.specs.Cells.{cellIn}
-use Rattle.rows.specs.laws.Start.{startCell}
 use Rattle.working_none.specs.laws.Low.{entry, AllLow}
+use Rattle.rows.specs.laws.Start.{startCell}
 
 -- the cells of node v
 abbrev pub rowOf : List ℕ → (size v : ℕ) → List ℕ
@@ -37,7 +37,7 @@ pub record EachRow (R : ℕ → List ℕ → List ℕ → Type 0) (n size v : �
 
 -- ---- a row in its table
 
--- the list with `row` in the place of its k entries from a on
+-- the list with `part` in the place of its k entries from a on
 abbrev pub withPart : (a k : ℕ) → (list part : List ℕ) → List ℕ
 withPart a k list part = take a list ++ (part ++ drop k (drop a list))
 
@@ -97,7 +97,7 @@ module _ (size : ℕ) (cells : List ℕ) (u : ℕ) where
       omega (arith, row-entry w small, low (u * size + w) (omega arith))
 
 -- two tables with the same cells of a node have the same row
-pub same-row : (size u : ℕ) (a b : List ℕ) → u * size + size ≤ length a → u * size + size ≤ length b
+same-row : (size u : ℕ) (a b : List ℕ) → u * size + size ≤ length a → u * size + size ≤ length b
     → ((w : ℕ) → w < size → cellIn a size u w ≡ cellIn b size u w) → rowOf a size u ≡ rowOf b size u
 same-row size u a b la lb each =
     ext-getD 0 (rowOf a size u) (rowOf b size u) (row-length size a u la ∙ sym (row-length size b u lb))

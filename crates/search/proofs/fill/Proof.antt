@@ -16,14 +16,6 @@ use Rattle.search.specs.laws.Filling.{Filling}
 use Rattle.search.specs.laws.Whole.{start-asked, split-asked, close-asked, fill-start, fill-next, fill-end}
 use Rattle.search.proofs.fill.Statement.{statement}
 use Rattle.search.proofs.fill.Tie as tie
-use Rattle.search.proofs.fill.Reads as reads
-use Rattle.search.proofs.fill.Lts as lts
-use Rattle.working_none.proofs.finish.Reads as finish-reads
-use Rattle.rows.proofs.split_rows.Reads as split-rows-reads
-use Rattle.rows.proofs.start_rows.Reads as start-rows-reads
-use Rattle.columns.proofs.close_sets.Reads as close-sets-reads
-use Rattle.order_ranges.proofs.end_of_size.Reads as end-of-size-reads
-use Rattle.subset.proofs.sets_of.Reads as sets-of-reads
 
 abbrev Inv-loop : tie.InvT-loop
 Inv-loop starts ends weights landings sets k arcs cells₀ column₀ n size first₀ cells column first = (0 < first) × (first ≤ maxSubsets) × (length column ≡ length column₀) × (length cells ≡ length column₀ * size) × Filling (graphIn (length column₀) k arcs (sheetTables starts ends weights landings)) workingNone inOrder first first (cellIn cells size)
@@ -72,9 +64,9 @@ loop-again c =
     let l = c .before .before .before .before .before .before .before .before .before .before .before .before .before .loop .inv in
     let end = c .before .before .before .before .before .before .before .before .before .before .before .end-of-size .ensures in
     let closed = c .before .before .before .before .close-sets in
-    let next =
-    fill-next (c .before .before .before .before .before .before .before .before .before .before .before .before .before .before .before .before .before .before .before .before .before .before .before .before .before .before .pre .0) (c .before .before .before .before .before .before .before .before .before .before .before .before .before .before .before .before .before .before .sets-of .ensures) (end .range) (l .2) (l .3) (l .4)
-    (c .before .before .before .before .before .before .before .before .before .split-rows .ensures) (closed .ensures) in (
+    let tables = c .before .before .before .before .before .before .before .before .before .before .before .before .before .before .before .before .before .before .before .before .before .before .before .before .before .before .pre .0 in
+    let is = c .before .before .before .before .before .before .before .before .before .before .before .before .before .before .before .before .before .before .sets-of .ensures in
+    let next = fill-next tables is (end .range) (l .2) (l .3) (l .4) (c .before .before .before .before .before .before .before .before .before .split-rows .ensures) (closed .ensures) in (
       omega (arith, end .rising),
       end .range .bound,
       closed .kept .1 .1 .1 .1 .1 .1 .1 .1 .1 .0 ∙ l .2,

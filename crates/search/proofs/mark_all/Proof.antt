@@ -10,8 +10,6 @@ use Rattle.lists.specs.Numbers.{constant-values}
 use Rattle.lists.specs.Values.{ValuesTo, no-values, next-value, all-values}
 use Rattle.search.proofs.mark_all.Statement.{statement}
 use Rattle.search.proofs.mark_all.Tie as tie
-use Rattle.search.proofs.mark_all.Reads as reads
-use Rattle.search.proofs.mark_all.Lts as lts
 
 abbrev Inv-loop : tie.InvT-loop
 Inv-loop marks₀ v₀ marks v = (v ≤ length marks₀) × ValuesTo (λ u. 1) v marks₀ marks

@@ -8,12 +8,6 @@ use denote.Ref.{now}
 use Rattle.search.specs.laws.Whole.{total-fits, total-long, fill-asked, cells-over, marks-over}
 use Rattle.search.proofs.search.Statement.{statement}
 use Rattle.search.proofs.search.Tie as tie
-use Rattle.search.proofs.search.Reads as reads
-use Rattle.search.proofs.search.Lts as lts
-use Rattle.search.proofs.fill.Reads as fill-reads
-use Rattle.search.proofs.mark_all.Reads as mark-all-reads
-use Rattle.order.proofs.copy_order.Reads as copy-order-reads
-use Rattle.subset.proofs.sets_of.Reads as sets-of-reads
 
 sets-of-requires : tie.Need-sets-of-requires
 sets-of-requires c κs = search needs

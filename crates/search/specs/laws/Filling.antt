@@ -15,9 +15,9 @@ use Rattle.graph.specs.ClosedSupported.{Support, by-arc, by-split, Supported, C
 use Rattle.graph.specs.Theorems.{closed-and-supported, tries-start-set, lowering-keeps-started, pass-closes-set, others-keep-closed}
 use Rattle.graph.specs.laws.Lowering.{support-lower}
 use Rattle.order_ranges.specs.laws.Ranges.{Ordered, OneSize, Outside, Inside, inside-or-out, part-outside, earlier-outside}
-use Rattle.rows.specs.laws.BestSplit.{BestSplit, SplitAt}
 use Rattle.settling.specs.laws.ClosedOver.{ArcFrom}
 use Rattle.columns.specs.laws.ClosedCells.{ClosedSets}
+use Rattle.rows.specs.laws.BestSplit.{BestSplit, SplitAt}
 
 -- the sets at positions below p are closed, and those from p up to q are started
 pub record Filling (G : Graph) (top : ℕ) (at : ℕ → ℕ) (p q : ℕ) (c : ℕ → ℕ → ℕ) : Type 0 where

@@ -4,47 +4,47 @@ use Prim.Native.Nat.{ℕ, _+_, _-_, _*_, _^_, _≤_, _<_}
 use mathlib.Core.Path.{_≡_, refl, sym, ap, ap₂, _∙_, subst}
 use mathlib.Core.Logic.{_⊎_, inl, inr}
 use mathlib.Core.List.{List, _++_, map}
+use mathlib.Core.Bool.{Bool, true, false, cond}
+use mathlib.Core.Option.{Option, none, some, Option·getD}
 use native.Mathlib.Omega.{arith}
 use native.Mathlib.Nat.{zero-add, mul-le-mul}
 use lib.Arith.{digits-lt}
 use lib.ListN.{length, getD, take, drop, replicate, length-replicate}
 use lib.Seq.{length-take-le}
 use lib.Pow.{pow-lt, pow-pos, pow-mono}
-use mathlib.Core.Bool.{Bool, true, false, cond}
-use mathlib.Core.Option.{Option, none, some, Option·getD}
 use lib.Dec.{eqb}
-use Rattle.graph.specs.LeastTotals.{leastTotal, IsLeastTotal, leastCell, IsCostTable, Room}
-use Rattle.graph.specs.Theorems.{least-total-is-least}
-use Rattle.working_none.specs.laws.WorkingNone.{finished-below, workingNone, finished}
 use Rattle.limits.specs.Limits.{maxNodes, maxTerminals, maxSubsets, maxWeight, noCost}
 use Rattle.lists.specs.Numbers.{numbers, length-values, getD-values}
 use Rattle.lists.specs.Over.{over}
-use Rattle.lent_tables.specs.SheetTables.{SheetTables, arcTablesOf, arcs-long}
 use Rattle.subset.specs.Sets.{single, terminalsIn}
 use Rattle.subset.specs.Terminals.{has-lt}
 use Rattle.subset.specs.Parts.{part-le}
+use Rattle.order.specs.Order.{inOrder}
+use Rattle.lent_tables.specs.SheetTables.{SheetTables, arcTablesOf, arcs-long}
+use Rattle.graph.specs.LeastTotals.{leastTotal, IsLeastTotal, leastCell, IsCostTable, Room}
+use Rattle.graph.specs.Theorems.{least-total-is-least}
 use Rattle.graph.specs.Graph.{Graph}
 use Rattle.graph.specs.HeldGraph.{graphIn, start-in, end-in, weight-in, landings-in}
 use Rattle.graph.specs.ClosedSupported.{by-landing}
 use Rattle.graph.specs.laws.LeastMeaning.{room-above}
 use Rattle.cost_table.specs.Cells.{cellIn, costTable}
 use Rattle.cost_table.specs.Rows.{length-cells, cells-are}
-use Rattle.order.specs.Order.{inOrder}
-use Rattle.rows.specs.laws.Start.{startCell, start-landing, start-le, start-finite}
+use Rattle.working_none.specs.laws.WorkingNone.{finished-below, workingNone, finished}
+use Rattle.working_none.specs.laws.Low.{entry, AllLow}
 use Rattle.order_ranges.specs.laws.Ranges.{OneSize}
 use Rattle.order_ranges.specs.laws.InOrder.{in-order, first-empty, OrderTable}
-use Rattle.rows.specs.laws.BestSplit.{BestSplit, best-split-same}
-use Rattle.search.specs.laws.Filling.{Filling, splitting, closing, filled}
 use Rattle.settling.specs.laws.ClosedOver.{ArcFrom, ClosedOver}
-use Rattle.working_none.specs.laws.Low.{entry, AllLow}
 use Rattle.settling.specs.laws.Arcs.{startAt, endAt, weightAt, ArcTables}
+use Rattle.columns.specs.laws.ClosedCells.{cells-low, SetsClosed}
+use Rattle.rows.specs.laws.Start.{startCell, start-landing, start-le, start-finite}
+use Rattle.rows.specs.laws.BestSplit.{BestSplit, best-split-same}
 use Rattle.rows.specs.laws.Rows.{rowOf, StartRow, EachRow, row-fits, row-length, row-entry}
 use Rattle.rows.specs.laws.SplitRow.{SplitRow}
-use Rattle.columns.specs.laws.ClosedCells.{cells-low, SetsClosed}
+use Rattle.search.specs.laws.Filling.{Filling, splitting, closing, filled}
 use Rattle.search.specs.Searchable.{Searchable}
 
 -- the least totals with the one "none" become those with the other
-pub finished-cell : (G : Graph) → Room G workingNone → (v w : ℕ) → finished (leastCell G workingNone v w) ≡ leastCell G noCost v w
+finished-cell : (G : Graph) → Room G workingNone → (v w : ℕ) → finished (leastCell G workingNone v w) ≡ leastCell G noCost v w
 finished-cell G room v w = go (eqb w 0) (leastTotal G v w) (least-total-is-least G v w)
   where
     go : (b : Bool) (o : Option ℕ) → IsLeastTotal G v w o → finished (cond b 0 (Option·getD o workingNone)) ≡ cond b 0 (Option·getD o noCost)

@@ -75,7 +75,13 @@ loop-less : tie.Need-loop-less Inv-loop μ-loop
 loop-less c = search needs
 
 loop-again : tie.Need-loop-again Inv-loop μ-loop
-loop-again c = (omega (arith, c .before .before .before .before .before .before .before .loop-test .taken), passed-more (c .before .before .before .before .before .before .before .before .before .before .before .before .before .pre .0) (c .before .before .before .before .before .before .taken-arc .ensures .1) (c .before .before .before .before .before .before .taken-arc .ensures .0) (c .before .before .before .before .before .before .before .before .loop .inv .1) _ _ _ refl (λ t. t .taken) (λ t. t .left) (c .if1 .came))
+loop-again c =
+    let on = c .before .before .before .before .before .before .before .loop-test .taken in
+    let arc = c .before .before .before .before .before .before .taken-arc .ensures in (
+      omega (arith, on),
+      passed-more (c .before .before .before .before .before .before .before .before .before .before .before .before .before .pre .0) (arc .1) (arc .0) (c .before .before .before .before .before .before .before .before .loop .inv .1) _ _ _ refl
+          (λ t. t .taken) (λ t. t .left) (c .if1 .came),
+    )
 
 same-length : tie.Need-same-length Inv-loop μ-loop
 same-length c = c .before .loop .inv .1 .same-length

@@ -1,6 +1,6 @@
 -- The cells of one set, one for each node, as a list: what a pass over the arcs does to them, and what passes until one lowers nothing do.
 -- Assumes nothing.
-use Prim.Native.Nat.{ℕ, _+_, _-_, _≤_, _<_}
+use Prim.Native.Nat.{ℕ, _+_, _≤_, _<_}
 use mathlib.Core.Path.{_≡_, refl, sym, ap, _∙_, subst, subst₂}
 use mathlib.Core.Logic.{_≢_, _⊎_, inl, inr}
 use mathlib.Core.Bool.{Bool, true, false, true≢false, false≢true}
@@ -13,8 +13,8 @@ use Rattle.limits.specs.Limits.{maxNodes, noCost}
 use Rattle.lists.specs.Below.{below-more}
 use Rattle.lists.specs.Sums.{sumTo, sumTo-lt}
 use Rattle.lent_tables.specs.SheetTables.{SheetTables}
-use Rattle.settling.specs.laws.ClosedOver.{ArcFrom, ClosedOver}
 use Rattle.working_none.specs.laws.Low.{entry, AllLow}
+use Rattle.settling.specs.laws.ClosedOver.{ArcFrom, ClosedOver}
 use Rattle.settling.specs.laws.Arcs.{startAt, endAt, weightAt, ArcTables, taken, taken-twice}
 
 module _ (m : ℕ) (t : SheetTables) where

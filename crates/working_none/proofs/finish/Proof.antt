@@ -10,8 +10,6 @@ use Rattle.working_none.specs.laws.WorkingNone.{finished, finished-by}
 use Rattle.working_none.specs.laws.Low.{entry}
 use Rattle.working_none.proofs.finish.Statement.{statement}
 use Rattle.working_none.proofs.finish.Tie as tie
-use Rattle.working_none.proofs.finish.Reads as reads
-use Rattle.working_none.proofs.finish.Lts as lts
 
 abbrev Inv-loop : tie.InvT-loop
 Inv-loop cells₀ i₀ cells i = (i ≤ length cells₀) × ValuesTo (λ j. finished (entry cells₀ j)) i cells₀ cells
