@@ -2,6 +2,8 @@
 pub mod Runs
 -- the stated rule by which equals are chosen
 pub mod Rule
+-- which refusal of a plan file is due
+pub mod FileDue
 -- the mission's three points
 pub mod PointOne
 pub mod PointTwo

@@ -3,7 +3,7 @@
 -- Assumes nothing.
 use Prim.Native.Nat.{ℕ, _<_, _≤_}
 use mathlib.Core.Path.{_≡_}
-use mathlib.Core.Logic.{_⊎_}
+use mathlib.Core.Logic.{_⊎_, _↔_}
 use mathlib.Core.Bool.{cond}
 use mathlib.Core.List.{List}
 use lib.Dec.{leb, eqb}
@@ -21,6 +21,7 @@ use Rattle.loader.specs.Loaded.{loaded}
 use Rattle.network.specs.Network.{graphOf}
 use Rattle.planfile.specs.Format.{rootIn, arcsIn}
 use Rattle.cost_table.specs.Cells.{costTable}
+use Rattle.mission.specs.FileDue.{FileDue}
 use Rattle.mission.specs.Runs.{ReaderTables, ReaderLong, Reader, EngineTables, EngineLong, Engine, GoodWith}
 
 -- ---- one plan or one refusal
@@ -116,9 +117,17 @@ pub record ReaderSafe (sheet file : List ℕ) (before : ReaderTables) (answer : 
       → GoodWith sheet (λ n k records. AsRead n k records file before after)
   pub accepted : (root cost count : ℕ) → answer ≡ plan root cost count → GoodWith sheet (λ n k records. AsRead n k records file before after)
 
--- and 1 to 11 are given where they are due
+-- with a good sheet and long enough tables, 14 to 19 are given exactly where they are due, each at its place
+abbrev pub GetsDue : (sheet file : List ℕ) → ReaderTables → Stated → Type 0
+GetsDue sheet file t answer =
+    (n k : ℕ) (records : List Record) → verdict sheet ≡ good n k records → ReaderLong n k (length (arcs records)) t
+    → (number place : ℕ) → (answer ≡ refused ofPlanFile number place) ↔ FileDue (graphOf n k records) file number place
+
+-- and 1 to 11, and 14 to 19, are given where they are due
 abbrev pub ReaderAnswers : (sheet file : List ℕ) → ReaderTables → Stated → ReaderTables → Type 0
-ReaderAnswers sheet file before answer after = ReaderSafe sheet file before answer after × FirstDue sheet (λ n k m. ReaderLong n k m before) answer
+ReaderAnswers sheet file before answer after =
+    ReaderSafe sheet file before answer after
+    × (FirstDue sheet (λ n k m. ReaderLong n k m before) answer × GetsDue sheet file before answer)
 
 -- of every run of a plan reader, whatever was lent
 abbrev pub ReaderPointOne : Reader → Type 0

@@ -8,4 +8,5 @@ pub mod Against
 -- the whole, and the mission's points
 pub mod Whole
 pub mod PointTwo
+pub mod DueFaults
 pub mod PointOne

@@ -5,12 +5,6 @@ use Rattle.best_plan.specs.laws.Best.{full-lt, of-full, none-sent}
 use borrow.Author.Needs.{needs}
 use Rattle.best_plan.proofs.best_plan.Statement.{statement}
 use Rattle.best_plan.proofs.best_plan.Tie as tie
-use Rattle.best_plan.proofs.best_plan.Reads as reads
-use Rattle.best_plan.proofs.best_plan.Lts as lts
-use Rattle.best_plan.proofs.lay_best.Reads as lay-best-reads
-use Rattle.cost_table.proofs.cell.Reads as cell-reads
-use Rattle.layout.proofs.root.best_root.Reads as best-root-reads
-use Rattle.subset.proofs.Subset.full.Reads as full-reads
 
 best-root-requires : tie.Need-best-root-requires
 best-root-requires c κs = search needs

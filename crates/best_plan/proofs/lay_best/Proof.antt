@@ -7,10 +7,6 @@ use Rattle.best_plan.specs.laws.Best.{few-laid, plan-fits, plan-sent}
 use borrow.Author.Needs.{needs}
 use Rattle.best_plan.proofs.lay_best.Statement.{statement}
 use Rattle.best_plan.proofs.lay_best.Tie as tie
-use Rattle.best_plan.proofs.lay_best.Reads as reads
-use Rattle.best_plan.proofs.lay_best.Lts as lts
-use Rattle.best_plan.proofs.write_best.Reads as write-best-reads
-use Rattle.layout.proofs.plan.lay_out.Reads as lay-out-reads
 
 slice-aggregate-lay-out : tie.Need-slice-aggregate-lay-out
 slice-aggregate-lay-out c = search needs

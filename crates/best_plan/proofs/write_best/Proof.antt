@@ -1,13 +1,9 @@
 -- `best_plan::write_best` meets its contract.
 -- Assumes nothing.
 use borrow.Author.Needs.{needs}
-use borrow.Author.Needs.{needs}
 use Rattle.best_plan.specs.laws.Best.{sent-file, sent-short, never-none}
 use Rattle.best_plan.proofs.write_best.Statement.{statement}
 use Rattle.best_plan.proofs.write_best.Tie as tie
-use Rattle.best_plan.proofs.write_best.Reads as reads
-use Rattle.best_plan.proofs.write_best.Lts as lts
-use Rattle.planfile.proofs.write.write_plan.Reads as write-plan-reads
 
 write-plan-requires : tie.Need-write-plan-requires
 write-plan-requires c κs = search needs
