@@ -1,12 +1,5 @@
--- what a reader must believe, its cases, the worked files, and what the marks say
+-- what a reader must believe, and the worked files
 pub mod Reader
-pub mod Rules
 pub mod Worked
-pub mod Marks
--- the file against the tables
-pub mod Against
--- the whole, and the mission's points
-pub mod Whole
-pub mod PointTwo
-pub mod DueFaults
-pub mod PointOne
+-- the cases of the answer, the file against the tables, and the mission's points
+pub mod laws

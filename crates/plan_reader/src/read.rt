@@ -23,7 +23,7 @@ ghost use Rattle.reaching.specs.Marks.{linkGraph, marksOf};
 ghost use Rattle.plan_tests.specs.PlanFaults.{answeredAs};
 ghost use Rattle.plan_tests.specs.ByMarks.{judgedFault};
 ghost use Rattle.plan_reader.specs.Reader.{answerTo, marksAfter, readingOf};
-ghost use Rattle.plan_reader.specs.Against.{ArcsReady};
+ghost use Rattle.plan_reader.specs.laws.Against.{ArcsReady};
 
 // The legs of a file that has no fault by itself: the sites that they reach are marked, and the plan is tested. The marks have one entry
 // for each site.

@@ -26,7 +26,7 @@ use Rattle.mission.specs.PointOne.{EngineAnswers}
 use Rattle.mission.specs.PointTwo.{IsPlan, EngineSound, Accepts}
 use Rattle.mission.specs.PointThree.{PlanTooLong, NoneCheaper, BestTotal, PlansOrNot, EngineBest, PointThree}
 use Rattle.plan_reader.specs.Reader.{readingOf}
-use Rattle.plan_reader.specs.PointTwo.{point-two as reads-plans, accepted-good}
+use Rattle.plan_reader.specs.laws.PointTwo.{point-two as reads-plans, accepted-good}
 use Rattle.best_plan.specs.Plan.{Plan}
 use Rattle.engine.specs.Engine.{planningOf}
 use Rattle.engine.specs.laws.Rules.{by-cases, by-long-cases}

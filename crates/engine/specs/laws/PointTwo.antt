@@ -21,7 +21,7 @@ use Rattle.mission.specs.Runs.{EngineTables, GoodWith, Run}
 use Rattle.mission.specs.PointLaws.{refused-not-plan, same-plan}
 use Rattle.mission.specs.PointTwo.{PlanWritten, PlanAccepted, EngineSound, EnginePointTwo}
 use Rattle.plan_reader.specs.Reader.{readingOf}
-use Rattle.plan_reader.specs.PointTwo.{point-two as reads-plans}
+use Rattle.plan_reader.specs.laws.PointTwo.{point-two as reads-plans}
 use Rattle.best_plan.specs.Plan.{Plan, planOf, withFile}
 use Rattle.engine.specs.Engine.{searched, planningOf}
 use Rattle.engine.specs.laws.Rules.{by-cases}

@@ -6,7 +6,7 @@ use lib.ListN.{length-take}
 use denote.Ref.{now}
 use borrow.Author.Needs.{needs}
 use Rattle.lent_tables.specs.SheetTables.{sheetTables}
-use Rattle.plan_reader.specs.Against.{fault-read, arcs-ready, arcs-judged}
+use Rattle.plan_reader.specs.laws.Against.{fault-read, arcs-ready, arcs-judged}
 use Rattle.plan_reader.proofs.read.read_file.Statement.{statement}
 use Rattle.plan_reader.proofs.read.read_file.Tie as tie
 

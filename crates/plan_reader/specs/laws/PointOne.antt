@@ -41,10 +41,10 @@ use Rattle.reaching.specs.Marks.{marksOf}
 use Rattle.reaching.specs.laws.MarkLaws.{marks-size}
 use Rattle.plan_tests.specs.PlanFaults.{firstFailed, treeFault}
 use Rattle.plan_reader.specs.Reader.{answered, marksBy, readAgainst, readingOf}
-use Rattle.plan_reader.specs.Marks.{MarksSay, marks-say}
-use Rattle.plan_reader.specs.Rules.{given, filledWith, reachedMarks, file-read, file-refused, plan-refused, plan-accepted}
-use Rattle.plan_reader.specs.DueFaults.{gets-due}
-use Rattle.plan_reader.specs.PointTwo.{point-two}
+use Rattle.plan_reader.specs.laws.MarksSay.{MarksSay, marks-say}
+use Rattle.plan_reader.specs.laws.Rules.{given, filledWith, reachedMarks, file-read, file-refused, plan-refused, plan-accepted}
+use Rattle.plan_reader.specs.laws.DueFaults.{gets-due}
+use Rattle.plan_reader.specs.laws.PointTwo.{point-two}
 
 -- ---- the numbers of faults
 

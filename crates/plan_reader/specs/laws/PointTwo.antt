@@ -40,7 +40,7 @@ use Rattle.file_tests.specs.laws.Returned.{FieldsOf}
 use Rattle.plan_tests.specs.PlanFaults.{planFault, treeFault}
 use Rattle.plan_tests.specs.laws.FirstFailed.{failed-none, none-failed}
 use Rattle.plan_reader.specs.Reader.{answered, answerTo, readingOf}
-use Rattle.plan_reader.specs.Rules.{given, file-read}
+use Rattle.plan_reader.specs.laws.Rules.{given, file-read}
 
 -- ---- the answer
 
