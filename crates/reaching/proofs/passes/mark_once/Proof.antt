@@ -11,9 +11,9 @@ use denote.Ref.{now}
 use Rattle.lists.specs.Listed.{listed}
 use Rattle.lists.specs.Numbers.{value-in}
 use Rattle.planfile.specs.Format.{listedArc, arcsTo}
-use Rattle.reaching.specs.Marks.{linkGraph}
+use Rattle.marking.specs.Links.{linkGraph}
 use Rattle.reaching.specs.Passes.{Passing}
-use Rattle.reaching.specs.laws.Marking.{or-taken, or-left, passing-start, passing-arc}
+use Rattle.reaching.specs.laws.Passing.{or-taken, or-left, passing-start, passing-arc}
 use borrow.Author.Needs.{needs}
 use Rattle.reaching.proofs.passes.mark_once.Statement.{statement}
 use Rattle.reaching.proofs.passes.mark_once.Tie as tie
