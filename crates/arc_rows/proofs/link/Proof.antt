@@ -7,10 +7,10 @@ use native.Mathlib.Omega.{arith}
 use lib.ListN.{length, getD, length-set}
 use lib.Dec.{T}
 use denote.Ref.{now}
+use borrow.Author.Needs.{needs}
 use Rattle.lists.specs.Listed.{listed}
 use Rattle.lists.specs.Numbers.{value-in}
 use Rattle.planfile.specs.Format.{listedArc, arcsTo}
-use borrow.Author.Needs.{needs}
 use Rattle.arc_rows.proofs.link.Statement.{statement}
 use Rattle.arc_rows.proofs.link.Tie as tie
 

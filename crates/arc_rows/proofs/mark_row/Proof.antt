@@ -7,13 +7,13 @@ use native.Mathlib.Omega.{arith}
 use lib.ListN.{length}
 use lib.Dec.{T}
 use denote.Ref.{now}
+use borrow.Author.Needs.{needs}
 use Rattle.lists.specs.Listed.{listed}
 use Rattle.lists.specs.Numbers.{value-in}
 use Rattle.planfile.specs.Format.{listedArc, arcsTo}
 use Rattle.marking.specs.Links.{linkGraph}
 use Rattle.arc_rows.specs.Rows.{RowMarked}
 use Rattle.arc_rows.specs.laws.RowLaws.{row-none, row-same, row-more}
-use borrow.Author.Needs.{needs}
 use Rattle.arc_rows.proofs.mark_row.Statement.{statement}
 use Rattle.arc_rows.proofs.mark_row.Tie as tie
 

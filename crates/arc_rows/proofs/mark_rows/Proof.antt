@@ -2,8 +2,8 @@
 -- Assumes nothing.
 use native.Mathlib.Omega.{arith}
 use denote.Ref.{now}
-use Rattle.arc_rows.specs.laws.RowLaws.{within-starts, zeros-below}
 use borrow.Author.Needs.{needs}
+use Rattle.arc_rows.specs.laws.RowLaws.{within-starts, zeros-below}
 use Rattle.arc_rows.proofs.mark_rows.Statement.{statement}
 use Rattle.arc_rows.proofs.mark_rows.Tie as tie
 

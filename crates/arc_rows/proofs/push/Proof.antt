@@ -1,7 +1,7 @@
 -- `arc_rows::push` meets its contract. Each return has the test that led to it.
 -- Assumes nothing.
-use Rattle.arc_rows.specs.laws.RowLaws.{queued-put, queued-full}
 use borrow.Author.Needs.{needs}
+use Rattle.arc_rows.specs.laws.RowLaws.{queued-put, queued-full}
 use Rattle.arc_rows.proofs.push.Statement.{statement}
 use Rattle.arc_rows.proofs.push.Tie as tie
 

@@ -6,11 +6,11 @@ use mathlib.Core.Path.{_≡_, refl, _∙_}
 use native.Mathlib.Omega.{arith}
 use lib.ListN.{length}
 use denote.Ref.{now}
+use borrow.Author.Needs.{needs}
 use Rattle.planfile.specs.Format.{arcsTo}
 use Rattle.marking.specs.Links.{linkGraph}
 use Rattle.arc_rows.specs.Rows.{RowMarked}
 use Rattle.arc_rows.specs.laws.RowLaws.{row-root, row-again, row-then}
-use borrow.Author.Needs.{needs}
 use Rattle.arc_rows.proofs.walk.Statement.{statement}
 use Rattle.arc_rows.proofs.walk.Tie as tie
 
