@@ -1,7 +1,6 @@
--- what a reader must believe: the marks, and the tables that the arcs stand in
+-- what a reader must believe: the marks of the nodes that listed arcs reach
 pub mod Marks
--- what the code keeps while it marks, pass by pass and row by row
+-- what a pass gives
 pub mod Passes
-pub mod Rows
 -- what the marks say, and that the passes come to them
 pub mod laws

@@ -2,16 +2,16 @@
 // The legs are followed row by row from the root, each listed leg once; then passes over the listed legs mark what is left, until one marks no
 // site. What is marked is right whatever the rows are, and the last pass tells that nothing is left: the rows only save passes.
 mod passes;
-mod rows;
 
 use crate::passes::mark_all;
-use crate::rows::mark_rows;
+use arc_rows::mark_rows;
 ghost use mathlib.Core.Path.{_≡_};
 ghost use Prim.Native.Nat.{_≤_, _<_};
 ghost use lib.ListN.{length, replicate};
 ghost use Rattle.limits.specs.Limits.{maxNodes, maxArcs};
 ghost use Rattle.planfile.specs.Format.{fileSize, arcsTo};
-ghost use Rattle.reaching.specs.Marks.{linkGraph, Within, Below, marksOf};
+ghost use Rattle.marking.specs.Links.{linkGraph, Within, Below};
+ghost use Rattle.reaching.specs.Marks.{marksOf};
 
 // No site is marked.
 fn clear(marks: &mut [u8])

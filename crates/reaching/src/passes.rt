@@ -1,28 +1,11 @@
 // Passes over the listed legs: each marks the ends of the legs whose starts are marked, until one marks no further site.
+use marking::mark_end;
 use planfile::fields::arc_at;
-ghost use Prim.Native.Nat.{_≤_, _<_};
-ghost use lib.ListN.{length, getD};
+ghost use Prim.Native.Nat.{_≤_};
+ghost use lib.ListN.{length};
 ghost use Rattle.planfile.specs.Format.{fileSize, arcsTo};
-ghost use Rattle.reaching.specs.Marks.{linkGraph, Within};
-ghost use Rattle.reaching.specs.Passes.{ArcMarks, Passed, Completed};
-
-// A leg whose start is marked marks its end: whether the end was not marked before.
-pub fn mark_end(starts: &[u16], ends: &[u16], e: usize, marks: &mut [u8]) -> bool
-    requires { ⌜ (e < length (now starts)) × (e < length (now ends)) × (getD (now starts) e 0 < length (now marks))
-        × (getD (now ends) e 0 < length (now marks)) ⌝ }
-    ensures { λ r. ⌜ ArcMarks (getD (now (starts .entry)) e 0) (getD (now (ends .entry)) e 0) (now (marks .entry)) (now (marks .exit)) r ⌝ }
-{
-    let start = starts[e] as usize;
-    let end = ends[e] as usize;
-    if marks[start] != 1 {
-        return false;
-    }
-    if marks[end] == 1 {
-        return false;
-    }
-    marks[end] = 1;
-    true
-}
+ghost use Rattle.marking.specs.Links.{linkGraph, Within};
+ghost use Rattle.reaching.specs.Passes.{Passed, Completed};
 
 // One pass over the listed legs: whether it marked a site.
 fn mark_once(file: &[u8], count: u16, starts: &[u16], ends: &[u16], marks: &mut [u8]) -> bool

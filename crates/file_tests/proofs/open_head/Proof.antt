@@ -42,7 +42,16 @@ returns-4 c =
 returns-5 : tie.Need-returns-5
 returns-5 c =
     let size = c .before .before .file-size .ensures ∙ ap fileSize (c .before .before .before .count-in .ensures) in
-    simp (le-ltb _ _ (c .before .before .before .before .before .before .before .before .if1 .left), ← c .before .before .before .before .before .before .before .u16-at .ensures, eq-eqb _ _ (c .before .before .before .before .before .before .if2 .left), ← c .before .before .before .before .before .root-in .ensures, lt-leb _ _ (c .before .before .before .before .if3 .left), ← size, le-ltb _ _ (c .before .if4 .left), lt-ltb _ _ (c .if5 .taken))
+    simp (
+      le-ltb _ _ (c .before .before .before .before .before .before .before .before .if1 .left),
+      ← c .before .before .before .before .before .before .before .u16-at .ensures,
+      eq-eqb _ _ (c .before .before .before .before .before .before .if2 .left),
+      ← c .before .before .before .before .before .root-in .ensures,
+      lt-leb _ _ (c .before .before .before .before .if3 .left),
+      ← size,
+      le-ltb _ _ (c .before .if4 .left),
+      lt-ltb _ _ (c .if5 .taken),
+    )
 
 total-in-requires : tie.Need-total-in-requires
 total-in-requires c κs = search needs

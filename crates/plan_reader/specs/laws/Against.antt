@@ -30,7 +30,8 @@ use Rattle.file_tests.specs.Tested.{openedOf}
 use Rattle.file_tests.specs.declared.Opened.the-variants.{Fields, Fault}
 use Rattle.file_tests.specs.laws.Faults.{FileOk, file-passed, listed-on}
 use Rattle.file_tests.specs.laws.Returned.{FieldsOf, opened-fields, opened-fault}
-use Rattle.reaching.specs.Marks.{linkGraph, Within, Below, marksOf}
+use Rattle.marking.specs.Links.{linkGraph, Within, Below}
+use Rattle.reaching.specs.Marks.{marksOf}
 use Rattle.reaching.specs.laws.MarkLaws.{marks-size, marks-agree}
 use Rattle.plan_tests.specs.PlanFaults.{firstFailed, planFault, treeFault, answeredAs}
 use Rattle.plan_tests.specs.ByMarks.{ArcsBelow, markedCount, markedTerminals, weightSum, judgedFault}

@@ -38,7 +38,13 @@ loop-less : tie.Need-loop-less Inv-loop μ-loop
 loop-less c = omega arith
 
 loop-again : tie.Need-loop-again Inv-loop μ-loop
-loop-again c = (omega arith, omega (arith, c .one-if .ensures, bit-le (eqb (getD (now (c .before .before .before .before .before .args .marks)) (c .before .before .before .loop .v) 0) 1)), omega (arith, c .one-if .ensures, c .before .before .before .loop .inv .2, sumTo-more (c .before .before .before .loop .v) (λ u. bit (eqb (getD (now (c .before .before .before .before .before .args .marks)) u 0) 1))))
+loop-again c =
+    let marks = now (c .before .before .before .before .before .args .marks) in
+    let v = c .before .before .before .loop .v in (
+      omega arith,
+      omega (arith, c .one-if .ensures, bit-le (eqb (getD marks v 0) 1)),
+      omega (arith, c .one-if .ensures, c .before .before .before .loop .inv .2, sumTo-more v (λ u. bit (eqb (getD marks u 0) 1))),
+    )
 
 returns : tie.Need-returns Inv-loop μ-loop
 returns c = let e : c .before .loop .v ≡ length (now (c .before .before .before .args .marks)) = omega arith in c .before .loop .inv .2 ∙ ap (λ (n : ℕ). sumTo n (λ u. bit (eqb (getD (now (c .before .before .before .args .marks)) u 0) 1))) e

@@ -3,8 +3,9 @@
 use mathlib.Core.Path.{_∙_}
 use native.Mathlib.Omega.{arith}
 use denote.Ref.{now}
-use Rattle.reaching.specs.laws.Marking.{same-within, root-size, root-completes}
 use borrow.Author.Needs.{needs}
+use Rattle.marking.specs.laws.MarkingLaws.{same-within}
+use Rattle.reaching.specs.laws.Passing.{root-size, root-completes}
 use Rattle.reaching.proofs.reach.Statement.{statement}
 use Rattle.reaching.proofs.reach.Tie as tie
 

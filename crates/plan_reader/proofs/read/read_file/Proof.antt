@@ -45,7 +45,9 @@ returns-2 : tie.Need-returns-2
 returns-2 c =
     let a = c .before .before .before .before .before .before .before .before .before .before .before .before .before .before .args in
     let t = sheetTables (now (a .starts)) (now (a .ends)) (now (a .weights)) (now (a .landings)) in
-    arcs-judged (a .n) (a .k) (a .arcs) t (now (a .marks)) (now (a .file)) (c .before .before .before .before .before .before .before .before .before .before .before .before .before .before .pre) _ _ _ (sym (c .before .before .before .before .before .opened2 .given .1) ∙ c .before .before .before .before .before .before .before .open-file .ensures) _ _ (c .before .before .read-arcs .ensures .0) (c .before .before .read-arcs .ensures .1)
+    arcs-judged (a .n) (a .k) (a .arcs) t (now (a .marks)) (now (a .file)) (c .before .before .before .before .before .before .before .before .before .before .before .before .before .before .pre)
+    _ _ _ (sym (c .before .before .before .before .before .opened2 .given .1) ∙ c .before .before .before .before .before .before .before .open-file .ensures)
+    _ _ (c .before .before .read-arcs .ensures .0) (c .before .before .read-arcs .ensures .1)
 
 pub read-file-spec : {M : Type 1} → statement M
 read-file-spec =

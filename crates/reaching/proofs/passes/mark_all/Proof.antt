@@ -6,9 +6,11 @@ use denote.Ref.{now}
 use borrow.Author.Needs.{needs}
 use borrow.Author.Tests.{not-true, not-false}
 use Rattle.planfile.specs.Format.{arcsTo}
-use Rattle.reaching.specs.Marks.{linkGraph}
-use Rattle.reaching.specs.Passes.{Carried, unmarked}
-use Rattle.reaching.specs.laws.Marking.{carried-none, same-within, pass-carries, pass-falls, pass-completes}
+use Rattle.marking.specs.Links.{linkGraph}
+use Rattle.marking.specs.Marking.{Carried}
+use Rattle.marking.specs.laws.MarkingLaws.{carried-none, same-within}
+use Rattle.reaching.specs.Passes.{unmarked}
+use Rattle.reaching.specs.laws.Passing.{pass-carries, pass-falls, pass-completes}
 use Rattle.reaching.proofs.passes.mark_all.Statement.{statement}
 use Rattle.reaching.proofs.passes.mark_all.Tie as tie
 

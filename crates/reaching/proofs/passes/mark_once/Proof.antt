@@ -8,13 +8,13 @@ use native.Mathlib.Omega.{arith}
 use lib.ListN.{length}
 use lib.Dec.{T}
 use denote.Ref.{now}
+use borrow.Author.Needs.{needs}
 use Rattle.lists.specs.Listed.{listed}
 use Rattle.lists.specs.Numbers.{value-in}
 use Rattle.planfile.specs.Format.{listedArc, arcsTo}
-use Rattle.reaching.specs.Marks.{linkGraph}
+use Rattle.marking.specs.Links.{linkGraph}
 use Rattle.reaching.specs.Passes.{Passing}
-use Rattle.reaching.specs.laws.Marking.{or-taken, or-left, passing-start, passing-arc}
-use borrow.Author.Needs.{needs}
+use Rattle.reaching.specs.laws.Passing.{or-taken, or-left, passing-start, passing-arc}
 use Rattle.reaching.proofs.passes.mark_once.Statement.{statement}
 use Rattle.reaching.proofs.passes.mark_once.Tie as tie
 

@@ -1,15 +1,15 @@
 // The listed legs row by row: a row has the listed legs that start at one site, each once, by the number of a record that lists it. The rows are
 // walked site by site, from the root on, in the order in which the sites are marked, so that each listed leg is looked at once.
 // Nothing is proved of the rows but bounds: a leg marks its end only where its start is marked.
-use crate::passes::mark_end;
+use marking::mark_end;
 use planfile::fields::arc_at;
 ghost use Prim.Native.Nat.{_≤_, _<_};
 ghost use lib.ListN.{length};
 ghost use Rattle.limits.specs.Limits.{maxNodes, maxArcs};
 ghost use Rattle.planfile.specs.Format.{fileSize, arcsTo};
-ghost use Rattle.reaching.specs.Marks.{linkGraph, Within, Below};
-ghost use Rattle.reaching.specs.Passes.{Carried};
-ghost use Rattle.reaching.specs.Rows.{StartsBelow, AllBelow, RowsReady, Queued, RowMarked};
+ghost use Rattle.marking.specs.Links.{linkGraph, Within, Below};
+ghost use Rattle.marking.specs.Marking.{Carried};
+ghost use Rattle.arc_rows.specs.Rows.{StartsBelow, AllBelow, RowsReady, Queued, RowMarked};
 
 const MAX_NODES: usize = limits::MAX_NODES as usize;
 

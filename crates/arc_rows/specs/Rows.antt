@@ -8,8 +8,8 @@ use lib.ListN.{length, getD}
 use Rattle.lists.specs.Listed.{listed}
 use Rattle.graph.specs.Graph.{Graph}
 use Rattle.planfile.specs.Format.{fileSize, arcsTo}
-use Rattle.reaching.specs.Marks.{Within, Below}
-use Rattle.reaching.specs.Passes.{Carried}
+use Rattle.marking.specs.Links.{Within, Below}
+use Rattle.marking.specs.Marking.{Carried}
 
 -- the listed arcs are in the table of starts, and start below n
 abbrev pub StartsBelow : ℕ → List ℕ → List ℕ → Type 0

@@ -1,9 +1,9 @@
--- `reaching::rows::push` meets its contract. Each return has the test that led to it.
+-- `arc_rows::push` meets its contract. Each return has the test that led to it.
 -- Assumes nothing.
-use Rattle.reaching.specs.laws.RowLaws.{queued-put, queued-full}
 use borrow.Author.Needs.{needs}
-use Rattle.reaching.proofs.rows.push.Statement.{statement}
-use Rattle.reaching.proofs.rows.push.Tie as tie
+use Rattle.arc_rows.specs.laws.RowLaws.{queued-put, queued-full}
+use Rattle.arc_rows.proofs.push.Statement.{statement}
+use Rattle.arc_rows.proofs.push.Tie as tie
 
 mul-queue : tie.Need-mul-queue
 mul-queue c = search needs

@@ -1,18 +1,18 @@
--- `reaching::rows::walk` meets its contract. The loop's invariant: the rows of the nodes in the queue so far have marked. The measure is the room
+-- `arc_rows::walk` meets its contract. The loop's invariant: the rows of the nodes in the queue so far have marked. The measure is the room
 -- that is left in the queue.
 -- Assumes nothing.
 use Prim.Native.Nat.{_<_, _-_}
-use mathlib.Core.Path.{_≡_, refl}
+use mathlib.Core.Path.{_≡_, refl, _∙_}
 use native.Mathlib.Omega.{arith}
 use lib.ListN.{length}
 use denote.Ref.{now}
-use Rattle.planfile.specs.Format.{arcsTo}
-use Rattle.reaching.specs.Marks.{linkGraph}
-use Rattle.reaching.specs.Rows.{RowMarked}
-use Rattle.reaching.specs.laws.RowLaws.{row-root, row-again, row-then}
 use borrow.Author.Needs.{needs}
-use Rattle.reaching.proofs.rows.walk.Statement.{statement}
-use Rattle.reaching.proofs.rows.walk.Tie as tie
+use Rattle.planfile.specs.Format.{arcsTo}
+use Rattle.marking.specs.Links.{linkGraph}
+use Rattle.arc_rows.specs.Rows.{RowMarked}
+use Rattle.arc_rows.specs.laws.RowLaws.{row-root, row-again, row-then}
+use Rattle.arc_rows.proofs.walk.Statement.{statement}
+use Rattle.arc_rows.proofs.walk.Tie as tie
 
 abbrev Inv-loop : tie.InvT-loop
 Inv-loop file count starts ends first next root queue₀ marks₀ tail₀ at₀ queue marks tail at =
@@ -58,13 +58,13 @@ loop-less c = omega (arith, c .before .before .before .before .before .before .b
 loop-again : tie.Need-loop-again Inv-loop μ-loop
 loop-again c =
     let a = c .before .before .before .before .before .before .before .before .before .before .before .before .before .before .before .before .before .before .before .before .before .before .args in
-    (search needs, row-then _ (now (a .starts)) (now (a .ends)) _ _ _ _ _ _ _ (c .before .before .before .before .before .before .before .before .before .before .loop .inv .1) (c .before .before .before .before .mark-row .ensures))
+    (c .before .before .before .before .mark-row .kept .1 .1 .1 .1 .1 .1 .1 .0 ∙ c .before .before .before .before .before .before .before .before .before .before .loop .inv .0, row-then _ (now (a .starts)) (now (a .ends)) _ _ _ _ _ _ _ (c .before .before .before .before .before .before .before .before .before .before .loop .inv .1) (c .before .before .before .before .mark-row .ensures))
 
 same-length : tie.Need-same-length Inv-loop μ-loop
-same-length c = search needs
+same-length c = c .before .loop .inv .0 ∙ c .before .before .before .before .push .ensures .size
 
 same-length-2 : tie.Need-same-length-2 Inv-loop μ-loop
-same-length-2 c = search needs
+same-length-2 c = c .before .loop .inv .1 .carried .size
 
 returns : tie.Need-returns Inv-loop μ-loop
 returns c = c .before .loop .inv .1 .carried

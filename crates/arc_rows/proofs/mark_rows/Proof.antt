@@ -1,11 +1,11 @@
--- `reaching::rows::mark_rows` meets its contract: whatever the rows are, the walk along them carries every marking.
+-- `arc_rows::mark_rows` meets its contract: whatever the rows are, the walk along them carries every marking.
 -- Assumes nothing.
 use native.Mathlib.Omega.{arith}
 use denote.Ref.{now}
-use Rattle.reaching.specs.laws.RowLaws.{within-starts, zeros-below}
 use borrow.Author.Needs.{needs}
-use Rattle.reaching.proofs.rows.mark_rows.Statement.{statement}
-use Rattle.reaching.proofs.rows.mark_rows.Tie as tie
+use Rattle.arc_rows.specs.laws.RowLaws.{within-starts, zeros-below}
+use Rattle.arc_rows.proofs.mark_rows.Statement.{statement}
+use Rattle.arc_rows.proofs.mark_rows.Tie as tie
 
 slice-aggregate-link : tie.Need-slice-aggregate-link
 slice-aggregate-link c = search needs
@@ -33,10 +33,10 @@ walk-requires c κs =
     (record { whole = start .pre .2; within = start .pre .3; linked = λ e t. omega (arith, start .pre .4 e t) }, zeros-below _ 1024 (omega (arith, start .pre .0)), start .pre .0, omega (arith, start .pre .1))
 
 same-length : tie.Need-same-length
-same-length c = search needs
+same-length c = c .before .before .before .walk .ensures .size
 
 returns : tie.Need-returns
-returns c = search needs
+returns c = c .before .before .before .walk .ensures
 
 pub mark-rows-spec : {M : Type 1} → statement M
 mark-rows-spec =

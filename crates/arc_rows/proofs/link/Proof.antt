@@ -1,4 +1,4 @@
--- `reaching::rows::link` stays within its tables. The loop's invariant: they are as long as before. The measure is the number of records left.
+-- `arc_rows::link` stays within its tables. The loop's invariant: they are as long as before. The measure is the number of records left.
 -- Assumes nothing.
 use Prim.Native.Nat.{ℕ, _≤_, _-_}
 use mathlib.Core.Path.{_≡_, sym, ap, _∙_, subst}
@@ -7,12 +7,12 @@ use native.Mathlib.Omega.{arith}
 use lib.ListN.{length, getD, length-set}
 use lib.Dec.{T}
 use denote.Ref.{now}
+use borrow.Author.Needs.{needs}
 use Rattle.lists.specs.Listed.{listed}
 use Rattle.lists.specs.Numbers.{value-in}
 use Rattle.planfile.specs.Format.{listedArc, arcsTo}
-use borrow.Author.Needs.{needs}
-use Rattle.reaching.proofs.rows.link.Statement.{statement}
-use Rattle.reaching.proofs.rows.link.Tie as tie
+use Rattle.arc_rows.proofs.link.Statement.{statement}
+use Rattle.arc_rows.proofs.link.Tie as tie
 
 abbrev Inv-loop : tie.InvT-loop
 Inv-loop file count starts first₀ next₀ i₀ first next i = (i ≤ count) × (length first ≡ length first₀) × (length next ≡ length next₀)

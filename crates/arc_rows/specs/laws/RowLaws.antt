@@ -11,10 +11,10 @@ use lib.Seq.{getD-set-same, getD-set-other}
 use lib.Dec.{T}
 use Rattle.lists.specs.Listed.{listed}
 use Rattle.planfile.specs.Format.{arcsTo}
-use Rattle.reaching.specs.Marks.{linkGraph, Within}
-use Rattle.reaching.specs.Passes.{ArcMarks}
-use Rattle.reaching.specs.Rows.{StartsBelow, AllBelow, RowsReady, Queued, RowMarked}
-use Rattle.reaching.specs.laws.Marking.{carried-none, carried-arc, carried-then}
+use Rattle.marking.specs.Links.{linkGraph, Within}
+use Rattle.marking.specs.Marking.{ArcMarks}
+use Rattle.marking.specs.laws.MarkingLaws.{carried-none, carried-then, carried-arc}
+use Rattle.arc_rows.specs.Rows.{StartsBelow, AllBelow, RowsReady, Queued, RowMarked}
 
 -- ---- the queue
 

@@ -1,0 +1,2 @@
+-- the queue, and one row after another
+pub mod RowLaws

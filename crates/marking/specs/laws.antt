@@ -1,0 +1,2 @@
+-- the root alone, one arc, and one step after another
+pub mod MarkingLaws
