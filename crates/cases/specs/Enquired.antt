@@ -16,9 +16,9 @@ use Rattle.graph.specs.Subtrees.{Subtree, Covers, total}
 use Rattle.graph.specs.LeastTotals.{NoSubtree, Least, IsCostTable, Room}
 use Rattle.graph.specs.Theorems.{cell-is-least}
 use Rattle.number_fields.specs.Fields.{Bytes}
-use Rattle.sheet.specs.Good.{IsSheet, good-is-sheet}
+use Rattle.sheet.specs.laws.Good.{IsSheet, good-is-sheet}
 use Rattle.sheet.specs.Verdict.{good, verdict}
-use Rattle.sheet.specs.declared.record.Record.{Record}
+use Rattle.records.specs.declared.record.Record.{Record}
 use Rattle.network.specs.Network.{graphOf}
 use Rattle.network.specs.OfSheets.{sheet-room}
 use Rattle.cost_table.specs.Cells.{cellIn, costTable}

@@ -20,8 +20,8 @@ use Rattle.answer.specs.Stated.{Family, Stated, plan, refused, ofSearch}
 use Rattle.number_fields.specs.Fields.{Bytes, number16, number32}
 use Rattle.sheet.specs.Verdict.{good, verdict, readFor}
 use Rattle.sheet.specs.Worked.{sheetB, sheetD}
-use Rattle.sheet.specs.declared.record.Record.{Record}
-use Rattle.sheet.specs.declared.record.Record.the-variants.{BothWays, Landing}
+use Rattle.records.specs.declared.record.Record.{Record}
+use Rattle.records.specs.declared.record.Record.the-variants.{BothWays, Landing}
 use Rattle.network.specs.Network.{graphOf}
 use Rattle.planfile.specs.Format.{fileBytes, fileSize, rootIn, totalIn, countIn}
 use Rattle.planfile.specs.FormatLaws.{encoding-fits, length-file}

@@ -11,7 +11,7 @@ use Rattle.answer.specs.Stated.{plan, refused, ofSheet, ofSearch, ofPlanFile}
 use Rattle.sheet.specs.Verdict.{Verdict, good, bad, verdict, readFor}
 use Rattle.sheet.specs.Worked.{sheetA, sheetB, sheetC, sheetD, sheetE, sheetF, sheetG, sheetH, sheetI, sheetJ}
 use Rattle.lent_tables.specs.SheetTables.{sheetTables}
-use Rattle.loader.specs.Loaded.{loaded}
+use Rattle.record_tables.specs.Loaded.{loaded}
 use Rattle.network.specs.Network.{graphOf}
 use Rattle.mission.specs.Runs.{ReaderTables, readerTables, EngineTables, engineTables, run}
 use Rattle.file_tests.specs.FileFaults.{fileFault}

@@ -21,14 +21,14 @@ use Rattle.answer.specs.OneToOne.{refusal-no-plan}
 use Rattle.answer.specs.declared.Refusal.the-variants.{Sheet}
 use Rattle.answer.specs.declared.SheetFault.{SheetFault}
 use Rattle.answer.specs.declared.SheetFault.the-variants.{ShortSheet, StrangeMark, BadHead, NoSuchSite, NoSuchStation, Loop, BadPrice, TooManyLegs, AfterTheEnd, Unheard}
-use Rattle.sheet.specs.Arcs.{arcs}
+use Rattle.records.specs.Arcs.{arcs}
 use Rattle.number_fields.specs.Fields.{Bytes}
 use Rattle.sheet.specs.Verdict.{Verdict, good, bad, verdict}
-use Rattle.sheet.specs.declared.record.Record.{Record}
+use Rattle.records.specs.declared.record.Record.{Record}
 use Rattle.lent_tables.specs.SheetTables.{SameLengths, sheetTables}
-use Rattle.loader.specs.Writing.{loaded-lengths}
+use Rattle.record_tables.specs.laws.Writing.{loaded-lengths}
 use Rattle.opener.specs.Opening.{SheetOpening, refuses, opens, byVerdict, byOpening}
-use Rattle.loader.specs.Held.{start-held, end-held, weight-held}
+use Rattle.record_tables.specs.laws.Held.{start-held, end-held, weight-held}
 use Rattle.network.specs.Network.{graphOf}
 use Rattle.planfile.specs.Format.{fileBytes, fileSize, listedArc, arcsTo}
 use Rattle.planfile.specs.FormatLaws.{length-file, arcs-read-first}

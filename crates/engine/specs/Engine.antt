@@ -6,8 +6,8 @@ use mathlib.Core.List.{List}
 use lib.ListN.{replicate}
 use Rattle.limits.specs.Limits.{noCost}
 use Rattle.lists.specs.Over.{over}
-use Rattle.sheet.specs.declared.record.Record.{Record}
-use Rattle.loader.specs.Loaded.{loaded}
+use Rattle.records.specs.declared.record.Record.{Record}
+use Rattle.record_tables.specs.Loaded.{loaded}
 use Rattle.opener.specs.Opening.{sheetOpening}
 use Rattle.network.specs.Network.{graphOf}
 use Rattle.cost_table.specs.Cells.{costTable}

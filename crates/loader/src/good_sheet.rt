@@ -1,10 +1,10 @@
 // The records of a sheet that is known to be good, read without a test.
 use number_fields::u16_at;
-use sheet::fields::landing_in;
-use sheet::fields::link_in;
-use sheet::record::Record;
+use records::fields::landing_in;
+use records::fields::link_in;
+use records::record::Record;
 ghost use mathlib.Core.Path.{_≡_};
-ghost use Rattle.loader.specs.FirstRecord.{WholeRecord, firstRecord};
+ghost use Rattle.loader.specs.laws.FirstRecord.{WholeRecord, firstRecord};
 
 // The record that the bytes begin with, where they begin with a whole one: nothing but its mark is compared.
 pub fn first_record(bytes: &[u8]) -> Record

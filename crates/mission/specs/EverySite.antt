@@ -12,7 +12,7 @@ use Rattle.subset.specs.Sets.{full}
 use Rattle.graph.specs.Graph.{Graph}
 use Rattle.graph.specs.Paths.{ReachesAll}
 use Rattle.graph.specs.Subtrees.{Subtree, CoversAll, total}
-use Rattle.sheet.specs.declared.record.Record.{Record}
+use Rattle.records.specs.declared.record.Record.{Record}
 use Rattle.network.specs.Network.{graphOf}
 use Rattle.network.specs.OfSheets.{sheet-total}
 use Rattle.mission.specs.Rule.{Costs, ArcFits, PartSplits, LeastRoot}

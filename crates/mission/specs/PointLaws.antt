@@ -12,7 +12,7 @@ use Rattle.answer.specs.declared.SheetFault.{SheetFault}
 use Rattle.answer.specs.declared.SheetFault.the-variants.{ShortSheet, StrangeMark, BadHead, NoSuchSite, NoSuchStation, Loop, BadPrice}
 use Rattle.answer.specs.declared.SheetFault.the-variants.{TooManyLegs, AfterTheEnd, Unheard}
 use Rattle.sheet.specs.Verdict.{Verdict, good, bad, verdict}
-use Rattle.sheet.specs.declared.record.Record.{Record}
+use Rattle.records.specs.declared.record.Record.{Record}
 use Rattle.lent_tables.specs.SheetTables.{SheetTables}
 use Rattle.lent_tables.specs.Lengths.{AllLong}
 use Rattle.opener.specs.Opening.{SheetOpening, sheetOpening}

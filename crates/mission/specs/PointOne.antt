@@ -14,10 +14,10 @@ use Rattle.lists.specs.Over.{over}
 use Rattle.answer.specs.Stated.{Family, ofSheet, ofTables, ofSearch, ofPlanFile, Stated, plan, cell, sender, noSender, refused, statedSheet}
 use Rattle.answer.specs.declared.SheetFault.{SheetFault}
 use Rattle.graph.specs.Paths.{DirectedPath}
-use Rattle.sheet.specs.Arcs.{arcs}
+use Rattle.records.specs.Arcs.{arcs}
 use Rattle.sheet.specs.Verdict.{good, bad, verdict}
-use Rattle.sheet.specs.declared.record.Record.{Record}
-use Rattle.loader.specs.Loaded.{loaded}
+use Rattle.records.specs.declared.record.Record.{Record}
+use Rattle.record_tables.specs.Loaded.{loaded}
 use Rattle.network.specs.Network.{graphOf}
 use Rattle.planfile.specs.Format.{rootIn, arcsIn}
 use Rattle.cost_table.specs.Cells.{costTable}

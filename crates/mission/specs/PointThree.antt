@@ -14,10 +14,10 @@ use Rattle.answer.specs.Stated.{Stated, plan, refused, ofTables, ofSearch}
 use Rattle.graph.specs.Graph.{Graph}
 use Rattle.graph.specs.Paths.{ReachesAll}
 use Rattle.graph.specs.Subtrees.{Subtree, CoversAll, total}
-use Rattle.sheet.specs.Arcs.{arcs}
+use Rattle.records.specs.Arcs.{arcs}
 use Rattle.number_fields.specs.Fields.{Bytes}
 use Rattle.sheet.specs.Verdict.{good, verdict}
-use Rattle.sheet.specs.declared.record.Record.{Record}
+use Rattle.records.specs.declared.record.Record.{Record}
 use Rattle.network.specs.Network.{graphOf}
 use Rattle.planfile.specs.Format.{fileSize, totalIn}
 use Rattle.mission.specs.Runs.{ReaderTables, Reader, EngineTables, EngineLong, Engine, Plans}

@@ -8,7 +8,7 @@ use mathlib.Core.List.{List}
 use lib.ListN.{length}
 use Rattle.answer.specs.Stated.{Stated, plan}
 use Rattle.sheet.specs.Verdict.{good, verdict}
-use Rattle.sheet.specs.declared.record.Record.{Record}
+use Rattle.records.specs.declared.record.Record.{Record}
 use Rattle.lent_tables.specs.SheetTables.{SheetTables}
 use Rattle.opener.specs.Opening.{SheetOpening, byOpening}
 use Rattle.lent_tables.specs.Lengths.{marksOnly, cellsAndMarks, AllLong}

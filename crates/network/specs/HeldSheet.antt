@@ -11,7 +11,7 @@ use Rattle.lent_tables.specs.SheetTables.{SheetTables}
 use Rattle.graph.specs.Graph.{Graph, Sound}
 use Rattle.graph.specs.HeldGraph.{graphIn}
 use Rattle.graph.specs.LeastTotals.{Room}
-use Rattle.sheet.specs.Good.{IsSheet, good-is-sheet}
+use Rattle.sheet.specs.laws.Good.{IsSheet, good-is-sheet}
 use Rattle.lent_tables.specs.Lengths.{AllLong}
 use Rattle.opener.specs.Opened.{OpenedSheet, still-long}
 use Rattle.lent_tables.specs.declared.FurtherLengths.{FurtherLengths}

@@ -13,14 +13,14 @@ use Rattle.lists.specs.Every.{Every, every-mem}
 use Rattle.lists.specs.Over.{over}
 use Rattle.subset.specs.Sets.{terminalsIn}
 use Rattle.subset.specs.Parts.{terminals-lt}
-use Rattle.sheet.specs.Arcs.{Arc, arc, arcs, arcAt}
-use Rattle.sheet.specs.Landings.{terminalsAt}
-use Rattle.sheet.specs.Records.{RecordOk}
-use Rattle.sheet.specs.Heard.{landing-has}
-use Rattle.sheet.specs.declared.record.Record.{Record}
+use Rattle.records.specs.Arcs.{Arc, arc, arcs, arcAt}
+use Rattle.records.specs.Landings.{terminalsAt}
+use Rattle.records.specs.Records.{RecordOk}
+use Rattle.records.specs.laws.Heard.{landing-has}
+use Rattle.records.specs.declared.record.Record.{Record}
 use Rattle.lent_tables.specs.SheetTables.{SheetTables}
-use Rattle.loader.specs.Loaded.{loaded}
-use Rattle.loader.specs.Held.{terminals-held}
+use Rattle.record_tables.specs.Loaded.{loaded}
+use Rattle.record_tables.specs.laws.Held.{terminals-held}
 use Rattle.graph.specs.HeldGraph.{graphIn}
 use Rattle.network.specs.Network.{graphOf}
 

@@ -5,9 +5,9 @@ use mathlib.Core.Bool.{true}
 use mathlib.Core.List.{List}
 use lib.ListN.{length}
 use Rattle.graph.specs.Graph.{Graph}
-use Rattle.sheet.specs.Arcs.{arcs, arcAt}
-use Rattle.sheet.specs.Landings.{terminalsAt}
-use Rattle.sheet.specs.declared.record.Record.{Record}
+use Rattle.records.specs.Arcs.{arcs, arcAt}
+use Rattle.records.specs.Landings.{terminalsAt}
+use Rattle.records.specs.declared.record.Record.{Record}
 
 -- the graph of a sheet with n sites and k stations; no site is charged, and every site may be a root
 abbrev pub graphOf : (n k : ℕ) → List Record → Graph

@@ -19,12 +19,12 @@ use Rattle.graph.specs.Theorems.{least-total-limit, subtree-iff-one-path}
 use Rattle.graph.specs.laws.SubtreeParts.{total-weights}
 use Rattle.graph.specs.laws.LeastMeaning.{room-above}
 use Rattle.graph.specs.Paths.{Touched, OnePath}
-use Rattle.sheet.specs.Records.{LinkOk, RecordOk}
-use Rattle.sheet.specs.Arcs.{Arc, arc, arcsOf, arcs, arcAt}
-use Rattle.sheet.specs.Landings.{Heard}
-use Rattle.sheet.specs.Heard.{landing-has, has-landing}
-use Rattle.sheet.specs.declared.record.Record.{Record}
-use Rattle.sheet.specs.declared.record.Record.the-variants.{OneWay, BothWays, Landing as LandingRecord}
+use Rattle.records.specs.Records.{LinkOk, RecordOk}
+use Rattle.records.specs.Arcs.{Arc, arc, arcsOf, arcs, arcAt}
+use Rattle.records.specs.Landings.{Heard}
+use Rattle.records.specs.laws.Heard.{landing-has, has-landing}
+use Rattle.records.specs.declared.record.Record.{Record}
+use Rattle.records.specs.declared.record.Record.the-variants.{OneWay, BothWays, Landing as LandingRecord}
 use Rattle.network.specs.Network.{graphOf}
 
 -- ---- the arcs

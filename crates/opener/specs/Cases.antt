@@ -11,9 +11,9 @@ use Rattle.lists.specs.Tests.{by-test}
 use Rattle.answer.specs.Stated.{refused, ofTables, statedSheet}
 use Rattle.answer.specs.declared.SheetFault.{SheetFault}
 use Rattle.lent_tables.specs.SheetTables.{SheetTables}
-use Rattle.sheet.specs.Arcs.{arcs}
+use Rattle.records.specs.Arcs.{arcs}
 use Rattle.sheet.specs.Verdict.{Verdict, good, bad, verdict}
-use Rattle.sheet.specs.declared.record.Record.{Record}
+use Rattle.records.specs.declared.record.Record.{Record}
 use Rattle.lent_tables.specs.Lengths.{AllLong, areLong}
 use Rattle.lent_tables.specs.LengthLaws.{test-long, long-passes}
 use Rattle.opener.specs.Opening.{SheetOpening, refuses, opens, byVerdict, sheetOpening}

@@ -12,14 +12,14 @@ use Rattle.answer.specs.Stated.{refused, ofTables, statedSheet}
 use Rattle.answer.specs.declared.SheetFault.{SheetFault}
 use Rattle.number_fields.specs.Fields.{Bytes}
 use Rattle.lent_tables.specs.SheetTables.{SheetTables}
-use Rattle.sheet.specs.Arcs.{arcs}
-use Rattle.sheet.specs.Good.{IsSheet, good-is-sheet}
-use Rattle.sheet.specs.Judged.{judgedOf}
+use Rattle.records.specs.Arcs.{arcs}
+use Rattle.sheet.specs.laws.Good.{IsSheet, good-is-sheet}
+use Rattle.sheet.specs.laws.Judged.{judgedOf}
 use Rattle.sheet.specs.Verdict.{Verdict, good, bad, verdict}
-use Rattle.sheet.specs.declared.record.Record.{Record}
+use Rattle.records.specs.declared.record.Record.{Record}
 use Rattle.sheet.specs.declared.judge.Judged.the-variants.{Good, Fault}
-use Rattle.loader.specs.Loaded.{loadedBy}
-use Rattle.loader.specs.Loading.{Loadable}
+use Rattle.loader.specs.LoadedBy.{loadedBy}
+use Rattle.loader.specs.laws.Loading.{Loadable}
 use Rattle.lent_tables.specs.Lengths.{AllLong, areLong}
 use Rattle.lent_tables.specs.LengthLaws.{test-long, long-passes}
 use Rattle.opener.specs.Opening.{sheet, refusal, outcome, loadedAs, loadingOf}

@@ -7,11 +7,11 @@ use lib.ListN.{length}
 use Rattle.answer.specs.Stated.{statedRefusal}
 use Rattle.answer.specs.declared.Refusal.{Refusal}
 use Rattle.lent_tables.specs.SheetTables.{SheetTables, Long, long-same}
-use Rattle.sheet.specs.Arcs.{arcs}
+use Rattle.records.specs.Arcs.{arcs}
 use Rattle.sheet.specs.Verdict.{good, verdict}
-use Rattle.sheet.specs.declared.record.Record.{Record}
-use Rattle.loader.specs.Loaded.{loaded}
-use Rattle.loader.specs.Writing.{loaded-lengths}
+use Rattle.records.specs.declared.record.Record.{Record}
+use Rattle.record_tables.specs.Loaded.{loaded}
+use Rattle.record_tables.specs.laws.Writing.{loaded-lengths}
 use Rattle.lent_tables.specs.Lengths.{AllLong}
 use Rattle.opener.specs.Opening.{SheetOpening, refuses, opens, sheetOpening, Returned, sheet, refusal, returned, Outcome, outcome, loadedAs, loadingOf}
 use Rattle.opener.specs.Cases.{by-opening-cases}

@@ -8,10 +8,10 @@ use lib.ListN.{length}
 use Rattle.limits.specs.Refusals.{shortTables}
 use Rattle.answer.specs.Stated.{Stated, refused, ofTables, statedSheet, statedRefusal}
 use Rattle.lent_tables.specs.SheetTables.{SheetTables}
-use Rattle.sheet.specs.Arcs.{arcs}
+use Rattle.records.specs.Arcs.{arcs}
 use Rattle.sheet.specs.Verdict.{Verdict, good, bad, verdict}
-use Rattle.sheet.specs.declared.record.Record.{Record}
-use Rattle.loader.specs.Loaded.{loaded}
+use Rattle.records.specs.declared.record.Record.{Record}
+use Rattle.record_tables.specs.Loaded.{loaded}
 use Rattle.lent_tables.specs.Lengths.{areLong}
 use Rattle.lent_tables.specs.declared.FurtherLengths.{FurtherLengths}
 use Rattle.opener.specs.declared.Loaded.{Loaded}

@@ -9,8 +9,8 @@ use mathlib.Core.List.{List}
 use Rattle.lists.specs.Over.{over}
 use Rattle.answer.specs.Stated.{Stated}
 use Rattle.answer.specs.declared.PlanFault.{PlanFault}
-use Rattle.sheet.specs.declared.record.Record.{Record}
-use Rattle.loader.specs.Loaded.{loaded}
+use Rattle.records.specs.declared.record.Record.{Record}
+use Rattle.record_tables.specs.Loaded.{loaded}
 use Rattle.opener.specs.Opening.{sheetOpening}
 use Rattle.graph.specs.Graph.{Graph}
 use Rattle.network.specs.Network.{graphOf}

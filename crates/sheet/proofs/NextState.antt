@@ -7,11 +7,11 @@ use lib.ListN.{length, drop}
 use Rattle.answer.specs.declared.SheetFault.{SheetFault}
 use Rattle.subset.specs.Sets.{union}
 use Rattle.subset.specs.declared.Subset.{Subset}
-use Rattle.sheet.specs.Records.{size}
-use Rattle.sheet.specs.Arcs.{arcsOf}
-use Rattle.sheet.specs.Landings.{heardBy}
+use Rattle.records.specs.Records.{size}
+use Rattle.records.specs.Arcs.{arcsOf}
+use Rattle.records.specs.Landings.{heardBy}
 use Rattle.sheet.specs.Verdict.{foundIn, after, stepAfter, stepOf}
-use Rattle.sheet.specs.declared.record.Record.{Record}
+use Rattle.records.specs.declared.record.Record.{Record}
 use Rattle.sheet.specs.declared.reading.Reading.{Reading}
 use Rattle.sheet.specs.declared.reading.Found.the-variants.{Item, End, Fault}
 use Rattle.sheet.specs.declared.reading.Step.the-variants.{Next, End as Ended, Fault as Stopped}

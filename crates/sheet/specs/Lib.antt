@@ -1,17 +1,5 @@
--- what a reader must believe, in document 01's order
-pub mod Records
-pub mod Arcs
-pub mod Landings
+-- what a reader must believe, and the bytes of the worked sheets
 pub mod Verdict
 pub mod Worked
--- the law beside the verdict
-pub mod Good
--- laws of records, landings and the reading
-pub mod RecordLaws
-pub mod Passed
-pub mod Heard
-pub mod Reads
--- what the code keeps true while it reads, and what it returns
-pub mod Room
-pub mod Underway
-pub mod Judged
+-- the law beside the verdict, and laws of the reading
+pub mod laws

@@ -12,17 +12,17 @@ use Rattle.answer.specs.declared.SheetFault.{SheetFault}
 use Rattle.answer.specs.declared.SheetFault.the-variants.{ShortSheet, StrangeMark, BadHead, NoSuchSite, NoSuchStation, Loop, BadPrice, TooManyLegs, AfterTheEnd, Unheard}
 use Rattle.subset.specs.Sets.{full, union}
 use Rattle.number_fields.specs.Fields.{number16}
-use Rattle.sheet.specs.Records.{headFields, linkFields, landingFields, recordsBytes, headSize, size}
-use Rattle.sheet.specs.Arcs.{arcsOf, arcs}
-use Rattle.sheet.specs.Landings.{heardBy, heard}
-use Rattle.sheet.specs.declared.fields.HeadFields.{HeadFields}
-use Rattle.sheet.specs.declared.fields.HeadFields.the-variants.{Short as NoHead, Fields as Head}
-use Rattle.sheet.specs.declared.fields.LinkFields.{LinkFields}
-use Rattle.sheet.specs.declared.fields.LinkFields.the-variants.{Short as NoLink, Fields as Link}
-use Rattle.sheet.specs.declared.fields.LandingFields.{LandingFields}
-use Rattle.sheet.specs.declared.fields.LandingFields.the-variants.{Short as NoLanding, Fields as LandingAt}
-use Rattle.sheet.specs.declared.record.Record.{Record}
-use Rattle.sheet.specs.declared.record.Record.the-variants.{OneWay, BothWays, Landing}
+use Rattle.records.specs.Records.{headFields, linkFields, landingFields, recordsBytes, headSize, size}
+use Rattle.records.specs.Arcs.{arcsOf, arcs}
+use Rattle.records.specs.Landings.{heardBy, heard}
+use Rattle.records.specs.declared.fields.HeadFields.{HeadFields}
+use Rattle.records.specs.declared.fields.HeadFields.the-variants.{Short as NoHead, Fields as Head}
+use Rattle.records.specs.declared.fields.LinkFields.{LinkFields}
+use Rattle.records.specs.declared.fields.LinkFields.the-variants.{Short as NoLink, Fields as Link}
+use Rattle.records.specs.declared.fields.LandingFields.{LandingFields}
+use Rattle.records.specs.declared.fields.LandingFields.the-variants.{Short as NoLanding, Fields as LandingAt}
+use Rattle.records.specs.declared.record.Record.{Record}
+use Rattle.records.specs.declared.record.Record.the-variants.{OneWay, BothWays, Landing}
 use Rattle.sheet.specs.declared.reading.Reading.{Reading}
 use Rattle.sheet.specs.declared.reading.Opening.{Opening}
 use Rattle.sheet.specs.declared.reading.Opening.the-variants.{Head as Opened, Fault as NotOpened}

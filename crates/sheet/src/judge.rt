@@ -4,8 +4,8 @@ use crate::reading::Reading;
 use crate::reading::Step;
 use answer::SheetFault;
 ghost use mathlib.Core.Path.{_≡_};
-ghost use Rattle.sheet.specs.Judged.{judgedOf};
-ghost use Rattle.sheet.specs.Underway.{Underway};
+ghost use Rattle.sheet.specs.laws.Judged.{judgedOf};
+ghost use Rattle.sheet.specs.laws.Underway.{Underway};
 ghost use Rattle.sheet.specs.Verdict.{verdict};
 
 // A good sheet with its sites, stations and number of legs, or the first refusal.

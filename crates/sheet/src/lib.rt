@@ -1,5 +1,3 @@
-// The sheet: its records, the reading state that goes through them, and the verdict on a byte string.
-pub mod fields;
+// The sheet: the reading state that goes through its records, and the verdict on a byte string.
 pub mod judge;
 pub mod reading;
-pub mod record;

@@ -1,23 +1,23 @@
 // Reading goes record by record: the reading state goes in, and comes back one record further.
-use crate::fields::HeadFields;
-use crate::fields::LandingFields;
-use crate::fields::LinkFields;
-use crate::fields::head_fields;
-use crate::fields::landing_fields;
-use crate::fields::link_fields;
-use crate::record::HEAD_SIZE;
-use crate::record::Record;
 use answer::SheetFault;
 use number_fields::u16_at;
+use records::fields::HeadFields;
+use records::fields::LandingFields;
+use records::fields::LinkFields;
+use records::fields::head_fields;
+use records::fields::landing_fields;
+use records::fields::link_fields;
+use records::record::HEAD_SIZE;
+use records::record::Record;
 use subset::Subset;
 ghost use mathlib.Core.Path.{_≡_};
 ghost use Prim.Native.Nat.{_+_, _≤_, _<_, _^_};
 ghost use lib.ListN.{length};
 ghost use Rattle.limits.specs.Limits.{maxTerminals, maxArcs};
-ghost use Rattle.sheet.specs.Records.{linkFields, landingFields};
+ghost use Rattle.records.specs.Records.{linkFields, landingFields};
 ghost use Rattle.sheet.specs.Verdict.{headTests, openingOf, linkTests, oneWayFound, bothWaysFound, landingFound, endFound, foundIn, after, stepOf};
-ghost use Rattle.sheet.specs.Room.{Room};
-ghost use Rattle.sheet.specs.Arcs.{arcsOf};
+ghost use Rattle.sheet.specs.laws.Room.{Room};
+ghost use Rattle.records.specs.Arcs.{arcsOf};
 
 // Where the reading stands: the offset of the next record, sites and stations of the head, and the legs and heard stations so far.
 pub struct Reading {

@@ -23,11 +23,11 @@ use Rattle.graph.specs.LeastTotals.{leastCell}
 use Rattle.graph.specs.Layout.{rootOf}
 use Rattle.graph.specs.Theorems.{layout-is-least, covers-all, full-finite-iff-reaches, root-rule, root-none, root-least}
 use Rattle.graph.specs.laws.CostTable.{cost-table-capped}
-use Rattle.sheet.specs.Arcs.{arcs}
+use Rattle.records.specs.Arcs.{arcs}
 use Rattle.number_fields.specs.Fields.{Bytes}
-use Rattle.sheet.specs.Good.{IsSheet, good-is-sheet}
+use Rattle.sheet.specs.laws.Good.{IsSheet, good-is-sheet}
 use Rattle.sheet.specs.Verdict.{good, verdict}
-use Rattle.sheet.specs.declared.record.Record.{Record}
+use Rattle.records.specs.declared.record.Record.{Record}
 use Rattle.network.specs.Network.{graphOf}
 use Rattle.network.specs.OfSheets.{sheet-sound, sheet-room}
 use Rattle.planfile.specs.Format.{fileBytes, encoding}

@@ -14,7 +14,7 @@ use Rattle.answer.specs.OneToOne.{refusal-no-plan}
 use Rattle.answer.specs.declared.SheetFault.{SheetFault}
 use Rattle.answer.specs.declared.Refusal.the-variants.{Sheet}
 use Rattle.sheet.specs.Verdict.{good, verdict}
-use Rattle.sheet.specs.declared.record.Record.{Record}
+use Rattle.records.specs.declared.record.Record.{Record}
 use Rattle.network.specs.Network.{graphOf}
 use Rattle.planfile.specs.Format.{fileSize}
 use Rattle.mission.specs.Runs.{EngineTables, withBuffer, engineFurther, GoodWith, Run}

@@ -13,7 +13,7 @@ use Rattle.answer.specs.OneToOne.{refusal-no-plan}
 use Rattle.answer.specs.declared.Refusal.the-variants.{Sheet}
 use Rattle.number_fields.specs.Fields.{Bytes}
 use Rattle.sheet.specs.Verdict.{good, verdict}
-use Rattle.sheet.specs.declared.record.Record.{Record}
+use Rattle.records.specs.declared.record.Record.{Record}
 use Rattle.network.specs.Network.{graphOf}
 use Rattle.planfile.specs.Format.{fileBytes, fileSize}
 use Rattle.planfile.specs.FormatLaws.{file-bytes, length-file}

@@ -13,9 +13,9 @@ use Rattle.limits.specs.Refusals.{shortTables, noPlan, shortBuffer}
 use Rattle.lists.specs.Tests.{by-test}
 use Rattle.answer.specs.Stated.{plan, refused, ofTables, ofSearch, statedSheet}
 use Rattle.answer.specs.declared.SheetFault.{SheetFault}
-use Rattle.sheet.specs.Arcs.{arcs}
+use Rattle.records.specs.Arcs.{arcs}
 use Rattle.sheet.specs.Verdict.{good, bad, verdict}
-use Rattle.sheet.specs.declared.record.Record.{Record}
+use Rattle.records.specs.declared.record.Record.{Record}
 use Rattle.opener.specs.Opening.{SheetOpening, sheetOpening}
 use Rattle.opener.specs.Cases.{opening-bad, opening-short, opening-good, by-opening-cases}
 use Rattle.network.specs.Network.{graphOf}

@@ -5,10 +5,10 @@ use mathlib.Core.Path.{sym, ap, _∙_, subst}
 use mathlib.Core.List.{List}
 use denote.Ref.{now}
 use Rattle.lent_tables.specs.SheetTables.{sheetTables, withLandings}
-use Rattle.sheet.specs.Records.{headSize}
+use Rattle.records.specs.Records.{headSize}
 use Rattle.sheet.specs.Verdict.{verdict}
-use Rattle.loader.specs.Loaded.{loadedBy}
-use Rattle.loader.specs.Loading.{Loading, loading-opened, loaded-cleared}
+use Rattle.loader.specs.LoadedBy.{loadedBy}
+use Rattle.loader.specs.laws.Loading.{Loading, loading-opened, loaded-cleared}
 use borrow.Author.Needs.{needs}
 use Rattle.loader.proofs.load.Statement.{statement}
 use Rattle.loader.proofs.load.Tie as tie

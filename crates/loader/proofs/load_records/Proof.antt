@@ -7,8 +7,8 @@ use lib.ListN.{length}
 use denote.Ref.{now}
 use borrow.Author.Needs.{needs}
 use Rattle.lent_tables.specs.SheetTables.{sheetTables}
-use Rattle.sheet.specs.Records.{endBytes}
-use Rattle.loader.specs.Loading.{Loading, end-fits, loading-whole, loading-fits, place-fits, count-fits, loading-falls, loading-next, loading-end}
+use Rattle.records.specs.Records.{endBytes}
+use Rattle.loader.specs.laws.Loading.{Loading, end-fits, loading-whole, loading-fits, place-fits, count-fits, loading-falls, loading-next, loading-end}
 use Rattle.loader.proofs.load_records.Statement.{statement}
 use Rattle.loader.proofs.load_records.Tie as tie
 

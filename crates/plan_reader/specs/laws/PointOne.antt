@@ -24,10 +24,10 @@ use Rattle.answer.specs.declared.Refusal.the-variants.{Sheet, PlanFile}
 use Rattle.graph.specs.Graph.{Graph}
 use Rattle.graph.specs.Paths.{DirectedPath}
 use Rattle.graph.specs.Subtrees.{total, isTree, isCovering}
-use Rattle.sheet.specs.Arcs.{arcs}
+use Rattle.records.specs.Arcs.{arcs}
 use Rattle.number_fields.specs.Fields.{Bytes, number16}
 use Rattle.sheet.specs.Verdict.{good, verdict}
-use Rattle.sheet.specs.declared.record.Record.{Record}
+use Rattle.records.specs.declared.record.Record.{Record}
 use Rattle.opener.specs.Opening.{SheetOpening}
 use Rattle.opener.specs.Cases.{by-opening-cases}
 use Rattle.network.specs.Network.{graphOf}
@@ -248,14 +248,16 @@ past-tables (some FalseTotal) file family number place same = omega (arith, same
 
 pub point-one : ReaderPointOne readingOf
 point-one sheet file t = (
-  safe sheet file t, (
-  first-due sheet (t .tables) (readerFurther t) t (λ n k records. readAgainst n k records file t)
-      (λ n k records e family number place same.
-      past-tables (orElse (fileFault n (length (arcs records)) file) (treeFault (graphOf n k records) file)) file family number place same),
-  (λ n k records e long number place.
-      let same = ap (λ (r : Run ReaderTables). r .answer) (file-read sheet file t n k records e long) in
-      let (there, back) = gets-due (graphOf n k records) file number place in
-      ((λ q. there (sym same ∙ q)), (λ due. same ∙ back due)))),
+  safe sheet file t,
+  (
+    first-due sheet (t .tables) (readerFurther t) t (λ n k records. readAgainst n k records file t)
+        (λ n k records e family number place same.
+        past-tables (orElse (fileFault n (length (arcs records)) file) (treeFault (graphOf n k records) file)) file family number place same),
+    (λ n k records e long number place.
+        let same = ap (λ (r : Run ReaderTables). r .answer) (file-read sheet file t n k records e long) in
+        let (there, back) = gets-due (graphOf n k records) file number place in
+        ((λ q. there (sym same ∙ q)), (λ due. same ∙ back due))),
+  ),
 )
 
 -- a run with the defined outcome has it, and points 2 and 1 of it

@@ -23,10 +23,10 @@ use Rattle.answer.specs.declared.PlanFault.{PlanFault}
 use Rattle.graph.specs.Graph.{Graph}
 use Rattle.graph.specs.Subtrees.{Subtree, total, isTree, isCovering}
 use Rattle.graph.specs.Theorems.{tree-test, covers-test, covers-all}
-use Rattle.sheet.specs.Arcs.{arcs}
+use Rattle.records.specs.Arcs.{arcs}
 use Rattle.number_fields.specs.Fields.{Bytes}
 use Rattle.sheet.specs.Verdict.{good, verdict}
-use Rattle.sheet.specs.declared.record.Record.{Record}
+use Rattle.records.specs.declared.record.Record.{Record}
 use Rattle.opener.specs.Opening.{SheetOpening}
 use Rattle.opener.specs.Cases.{by-opening-cases}
 use Rattle.network.specs.Network.{graphOf}

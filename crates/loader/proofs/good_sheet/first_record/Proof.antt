@@ -2,7 +2,7 @@
 -- Assumes nothing.
 use borrow.Author.Needs.{needs}
 use denote.Ref.{now}
-use Rattle.loader.specs.FirstRecord.{first-landing, link-whole, first-both, first-one}
+use Rattle.loader.specs.laws.FirstRecord.{first-landing, link-whole, first-both, first-one}
 use Rattle.loader.proofs.good_sheet.first_record.Statement.{statement}
 use Rattle.loader.proofs.good_sheet.first_record.Tie as tie
 

@@ -1,8 +1,8 @@
 -- `sheet::judge::judge` meets its contract. The reading is underway after the head.
 -- Assumes nothing.
 use mathlib.Core.Path.{sym, ap, _∙_}
-use Rattle.sheet.specs.Underway.{underway-opened, not-opened}
-use Rattle.sheet.specs.Judged.{judgedOf}
+use Rattle.sheet.specs.laws.Underway.{underway-opened, not-opened}
+use Rattle.sheet.specs.laws.Judged.{judgedOf}
 use borrow.Author.Needs.{needs}
 use Rattle.sheet.proofs.judge.judge.Statement.{statement}
 use Rattle.sheet.proofs.judge.judge.Tie as tie

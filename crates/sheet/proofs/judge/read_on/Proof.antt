@@ -5,8 +5,8 @@ use mathlib.Core.Path.{sym, _∙_}
 use lib.ListN.{length}
 use denote.Ref.{now}
 use borrow.Author.Needs.{needs}
-use Rattle.sheet.specs.Underway.{Underway, ready, underway-next, falls}
-use Rattle.sheet.specs.Judged.{judged-end, judged-fault}
+use Rattle.sheet.specs.laws.Underway.{Underway, ready, underway-next, falls}
+use Rattle.sheet.specs.laws.Judged.{judged-end, judged-fault}
 use Rattle.sheet.proofs.judge.read_on.Statement.{statement}
 use Rattle.sheet.proofs.judge.read_on.Tie as tie
 

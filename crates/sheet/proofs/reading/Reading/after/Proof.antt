@@ -1,6 +1,6 @@
 -- `sheet::reading::Reading::after` meets its contract. The sums fit by the room for the record; the fields are those of the next state.
 -- Assumes nothing.
-use Rattle.sheet.specs.Room.{lands-one}
+use Rattle.sheet.specs.laws.Room.{lands-one}
 use Rattle.sheet.proofs.NextState.{after-fields}
 use borrow.Author.Needs.{needs}
 use Rattle.sheet.proofs.reading.Reading.after.Statement.{statement}

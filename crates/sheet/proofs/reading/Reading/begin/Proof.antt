@@ -3,7 +3,7 @@
 use mathlib.Core.Path.{_≡_, ap, _∙_}
 use lib.ListN.{drop}
 use denote.Ref.{now}
-use Rattle.sheet.specs.Records.{headFields}
+use Rattle.records.specs.Records.{headFields}
 use borrow.Author.Tests.{eq-eqb, le-ltb, lt-ltb, ne-eqb}
 use Rattle.lists.specs.Rest.{take-rest}
 use borrow.Author.Needs.{needs}

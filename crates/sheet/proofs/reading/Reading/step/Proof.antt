@@ -6,8 +6,8 @@ use lib.ListN.{drop}
 use denote.Ref.{now}
 use Rattle.lists.specs.Rest.{take-rest}
 use Rattle.sheet.specs.Verdict.{foundIn}
-use Rattle.sheet.specs.Passed.{found-item}
-use Rattle.sheet.specs.Room.{room-found}
+use Rattle.sheet.specs.laws.Passed.{found-item}
+use Rattle.sheet.specs.laws.Room.{room-found}
 use Rattle.sheet.proofs.NextState.{step-of-item, step-of-end, step-of-fault}
 use borrow.Author.Needs.{needs}
 use Rattle.sheet.proofs.reading.Reading.step.Statement.{statement}

@@ -1,0 +1,6 @@
+-- what a reader must believe, in document 01's order
+pub mod Records
+pub mod Arcs
+pub mod Landings
+-- laws of landings
+pub mod laws
