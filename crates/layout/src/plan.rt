@@ -1,7 +1,7 @@
 // "Following and splitting hand the work to each other until the sets are used up. Legs are listed as they are added."
 // The tables hold a sheet with n sites, k stations and so many legs, and its finished cost table.
+use layout_parts::splitting_part;
 use layout_steps::Found;
-use layout_steps::splitting_part;
 use layout_walk::walk;
 use limits::Cost;
 use subset::Subset;

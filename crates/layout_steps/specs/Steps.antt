@@ -4,15 +4,15 @@
 use Prim.Native.Nat.{ℕ, _+_, _*_, _^_, _≤_, _<_}
 use mathlib.Core.Bool.{Bool, _&&_, _||_}
 use mathlib.Core.Option.{Option, none, some}
-use mathlib.Core.List.{List, []}
+use mathlib.Core.List.{List}
 use lib.Count.{ones}
 use lib.Dec.{eqb, ltb}
 use lib.ListN.{length, getD}
 use Rattle.limits.specs.Limits.{maxTerminals, noCost}
 use Rattle.subset.specs.Sets.{isPart, terminalsIn}
-use Rattle.lent_tables.specs.SheetTables.{SheetTables, Long, arcsAlone}
+use Rattle.lent_tables.specs.SheetTables.{SheetTables, Long}
 use Rattle.graph.specs.HeldGraph.{graphIn}
-use Rattle.graph.specs.Layout.{fits, splits}
+use Rattle.graph.specs.Layout.{fits}
 use Rattle.cost_table.specs.Cells.{cellIn}
 use Rattle.layout_steps.specs.declared.Found.{Found}
 use Rattle.layout_steps.specs.declared.Found.the-variants.{At, Nothing}
@@ -28,10 +28,6 @@ valuesFit start weight far v cost = eqb start v && (ltb far noCost && eqb (weigh
 -- arc e fits at v with w
 abbrev pub fitsIn : (k m : ℕ) → SheetTables → (cells : List ℕ) → (v w e : ℕ) → Bool
 fitsIn k m t cells = fits (graphIn 0 k m t) (cellIn cells (2 ^ k)) noCost
-
--- y splits w at v
-abbrev pub splitsIn : (k : ℕ) → List ℕ → (v w y : ℕ) → Bool
-splitsIn k cells = splits (graphIn 0 k 0 (arcsAlone [] [] [])) (cellIn cells (2 ^ k))
 
 -- what a search gives, by the number found
 abbrev pub foundAs : Option ℕ → Found

@@ -18,10 +18,11 @@ use Rattle.graph.specs.HeldGraph.{graphIn}
 use Rattle.graph.specs.Layout.{splits}
 use Rattle.graph.specs.Theorems.{layout-is-least}
 use Rattle.cost_table.specs.Cells.{cellIn}
-use Rattle.layout_steps.specs.Steps.{splitsIn, foundAs}
+use Rattle.layout_steps.specs.Steps.{foundAs}
 use Rattle.layout_steps.specs.laws.Tests.{found-some, found-none}
 use Rattle.layout_steps.specs.declared.Found.{Found}
 use Rattle.layout_steps.specs.declared.Found.the-variants.{At, Nothing}
+use Rattle.layout_parts.specs.Parts.{splitsIn}
 use Rattle.layout_walk.specs.Plan.{cellsFor, laid, Ready}
 use Rattle.layout_walk.specs.laws.Walk.{Placed, Unfollowed, Stored}
 use Rattle.layout_walk.specs.laws.Arcs.{load, stored-both, stored-length, stored-over}

@@ -1,6 +1,6 @@
 -- The tests of one step: what they come to where the tables hold the values, and what the searches find.
 -- Assumes nothing.
-use Prim.Native.Nat.{ℕ, _+_, _-_, _*_, _^_, _≤_, _<_}
+use Prim.Native.Nat.{ℕ, _+_, _^_, _≤_, _<_}
 use mathlib.Core.Path.{_≡_, refl, sym, ap, ap₂, _∙_, subst}
 use mathlib.Core.Logic.{_≢_, _⊎_, inl, inr}
 use mathlib.Core.Bool.{Bool, true, false, not, _&&_, _||_}
@@ -17,8 +17,8 @@ use Rattle.limits.specs.Limits.{noCost}
 use Rattle.lists.specs.Tests.{true-fact, false-not-fact, same-tests, eq-fact, and-left, and-right, and-both, or-cases, or-right, and-fails, and-passes}
 use Rattle.lists.specs.Find.{first, first-found, first-none}
 use Rattle.lists.specs.Below.{below-more}
-use Rattle.subset.specs.Sets.{single, has, Part, isPart, rest, terminalsIn}
-use Rattle.subset.specs.Parts.{isPart-part, part-has, part-le, single-part, rest-difference}
+use Rattle.subset.specs.Sets.{single, has, Part, isPart, terminalsIn}
+use Rattle.subset.specs.Parts.{part-has, single-part}
 use Rattle.subset.specs.Terminals.{has-lt}
 use Rattle.subset.specs.Sizes.{ones-single, one-terminal}
 use Rattle.lent_tables.specs.SheetTables.{SheetTables}
@@ -26,7 +26,7 @@ use Rattle.graph.specs.HeldGraph.{graphIn, landings-in}
 use Rattle.graph.specs.Layout.{isDone}
 use Rattle.graph.specs.laws.LayoutRule.{done-facts, facts-done}
 use Rattle.cost_table.specs.Cells.{cellIn}
-use Rattle.layout_steps.specs.Steps.{doneAt, valuesFit, fitsIn, splitsIn, foundAs}
+use Rattle.layout_steps.specs.Steps.{doneAt, valuesFit, fitsIn, foundAs}
 use Rattle.layout_steps.specs.declared.Found.the-variants.{At, Nothing}
 
 -- ---- nothing is added
@@ -100,33 +100,6 @@ module _ (k m : ℕ) (t : SheetTables) (cells : List ℕ) (v w : ℕ) where
   pub fits-at : (e cost far : ℕ) (r b : Bool) → e < m → cost ≡ cellIn cells (2 ^ k) v w → far ≡ cellIn cells (2 ^ k) (getD (t .ends) e 0) w
       → r ≡ valuesFit (getD (t .starts) e 0) (getD (t .weights) e 0) far v cost → r ≡ b → fitsIn k m t cells v w e ≡ b
   fits-at e cost far r b l here there test answer = fits-in e cost far l here there ∙ sym test ∙ answer
-
--- ---- a part splits
-
--- "none" and another cell do not make a finite one
-pub none-no-split : (y w part other cost : ℕ) → isPart y w ≡ true → cost < noCost → (part ≡ noCost) ⊎ (other ≡ noCost)
-    → (isPart y w && eqb (part + other) cost) ≡ false
-none-no-split y w part other cost p finite (inl e) = and-passes (isPart y w) (eqb (part + other) cost) p ∙ ne-eqb (part + other) cost (λ q. omega arith)
-none-no-split y w part other cost p finite (inr e) = and-passes (isPart y w) (eqb (part + other) cost) p ∙ ne-eqb (part + other) cost (λ q. omega arith)
-
-module _ (k : ℕ) (cells : List ℕ) (v w : ℕ) where
-  -- r is the test of a part and of the cells that the table holds, and b its answer
-  pub splits-at : (y cost : ℕ) (r b : Bool) → 1 ≤ y → cost ≡ cellIn cells (2 ^ k) v w
-      → r ≡ (isPart y w && eqb (cellIn cells (2 ^ k) v y + cellIn cells (2 ^ k) v (w - y)) cost) → r ≡ b → splitsIn k cells v w y ≡ b
-  splits-at y cost r b filled here test answer =
-      ap₂ (λ (b : Bool) (c : ℕ). not b && (isPart y w && eqb (cellIn cells (2 ^ k) v y + cellIn cells (2 ^ k) v (w - y)) c))
-      (ne-eqb y 0 (λ e. omega arith)) (add-zero _ ∙ sym here) ∙ sym test ∙ answer
-
-  -- no part is empty
-  pub none-empty : (j : ℕ) → j < 1 → T (not (splitsIn k cells v w j))
-  none-empty = below-more (λ j. T (not (splitsIn k cells v w j))) 0 (λ j l. absurd (omega arith)) tt
-
--- the cell of a part, and of the rest, lies in the table where that of the set does
-pub part-in : (size y w v len : ℕ) → isPart y w ≡ true → v * size + w < len → v * size + y < len
-part-in size y w v len p l = omega (arith, part-le y w (isPart-part y w p))
-
-pub rest-of : (y w z : ℕ) → isPart y w ≡ true → z ≡ rest w y → z ≡ w - y
-rest-of y w z p e = e ∙ rest-difference w y (isPart-part y w p)
 
 -- ---- what a search finds
 

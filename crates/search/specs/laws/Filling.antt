@@ -17,7 +17,7 @@ use Rattle.graph.specs.laws.Lowering.{support-lower}
 use Rattle.order_ranges.specs.laws.Ranges.{Ordered, OneSize, Outside, Inside, inside-or-out, part-outside, earlier-outside}
 use Rattle.settling.specs.laws.ClosedOver.{ArcFrom}
 use Rattle.columns.specs.laws.ClosedCells.{ClosedSets}
-use Rattle.rows.specs.laws.BestSplit.{BestSplit, SplitAt}
+use Rattle.splits.specs.laws.BestSplit.{BestSplit, SplitAt}
 
 -- the sets at positions below p are closed, and those from p up to q are started
 pub record Filling (G : Graph) (top : ℕ) (at : ℕ → ℕ) (p q : ℕ) (c : ℕ → ℕ → ℕ) : Type 0 where

@@ -37,9 +37,9 @@ use Rattle.settling.specs.laws.ClosedOver.{ArcFrom, ClosedOver}
 use Rattle.settling.specs.laws.Arcs.{startAt, endAt, weightAt, ArcTables}
 use Rattle.columns.specs.laws.ClosedCells.{cells-low, SetsClosed}
 use Rattle.rows.specs.laws.Start.{startCell, start-landing, start-le, start-finite}
-use Rattle.rows.specs.laws.BestSplit.{BestSplit, best-split-same}
 use Rattle.rows.specs.laws.Rows.{rowOf, StartRow, EachRow, row-fits, row-length, row-entry}
-use Rattle.rows.specs.laws.SplitRow.{SplitRow}
+use Rattle.splits.specs.laws.BestSplit.{BestSplit, best-split-same}
+use Rattle.splits.specs.laws.SplitRow.{SplitRow}
 use Rattle.search.specs.laws.Filling.{Filling, splitting, closing, filled}
 use Rattle.search.specs.Searchable.{Searchable}
 

@@ -16,7 +16,7 @@ use Rattle.layout.proofs.plan.+follow+split.Lts-follow as follow-lts
 use Rattle.layout.proofs.plan.split.Reads as split
 use Rattle.layout.proofs.plan.split.Kinds as split-kinds
 use Rattle.layout.proofs.plan.+follow+split.Lts-split as split-lts
-use Rattle.layout_steps.proofs.splitting_part.Reads as splitting-part-reads
+use Rattle.layout_parts.proofs.splitting_part.Reads as splitting-part-reads
 use Rattle.layout_walk.proofs.walk.Reads as walk-reads
 use Rattle.subset.proofs.Subset.without.Reads as without-reads
 use Rattle.layout.proofs.plan.+follow+split.{statement}

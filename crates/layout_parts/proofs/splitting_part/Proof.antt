@@ -1,4 +1,4 @@
--- `layout_steps::splitting_part` meets its contract. The loop's invariant: no number so far splits the set. The measure is how many are left.
+-- `layout_parts::splitting_part` meets its contract. The loop's invariant: no number so far splits the set. The measure is how many are left.
 -- Assumes nothing.
 use Prim.Native.Nat.{ℕ, _≤_, _<_, _-_}
 use mathlib.Core.Path.{sym, subst}
@@ -8,10 +8,11 @@ use lib.Dec.{T}
 use denote.Ref.{now}
 use borrow.Author.Needs.{needs}
 use Rattle.limits.specs.Limits.{noCost}
-use Rattle.layout_steps.specs.Steps.{splitsIn}
-use Rattle.layout_steps.specs.laws.Tests.{splits-at, none-empty, found-at, found-nothing, not-yet}
-use Rattle.layout_steps.proofs.splitting_part.Statement.{statement}
-use Rattle.layout_steps.proofs.splitting_part.Tie as tie
+use Rattle.layout_parts.specs.Parts.{splitsIn}
+use Rattle.layout_steps.specs.laws.Tests.{found-at, found-nothing, not-yet}
+use Rattle.layout_parts.specs.laws.PartTests.{splits-at, none-empty}
+use Rattle.layout_parts.proofs.splitting_part.Statement.{statement}
+use Rattle.layout_parts.proofs.splitting_part.Tie as tie
 
 abbrev Inv-loop : tie.InvT-loop
 Inv-loop cells k v w cost y₀ y = (1 ≤ y) × ((j : ℕ) → j < y → T (not (splitsIn k cells v (w .0) j)))

@@ -1,13 +1,13 @@
--- `rows::best_split` meets its contract. The loop's invariant: the splits by the parts above y have been tried. The measure is y.
+-- `splits::best_split` meets its contract. The loop's invariant: the splits by the parts above y have been tried. The measure is y.
 -- Assumes nothing.
 use Prim.Native.Nat.{_-_}
 use native.Mathlib.Omega.{arith}
 use lib.Bits.{and-le-l}
 use borrow.Author.Needs.{needs}
 use Rattle.working_none.specs.laws.Low.{entry}
-use Rattle.rows.specs.laws.BestSplit.{Tried, tried-none, tried-next, tried-all}
-use Rattle.rows.proofs.best_split.Statement.{statement}
-use Rattle.rows.proofs.best_split.Tie as tie
+use Rattle.splits.specs.laws.BestSplit.{Tried, tried-none, tried-next, tried-all}
+use Rattle.splits.proofs.best_split.Statement.{statement}
+use Rattle.splits.proofs.best_split.Tie as tie
 
 abbrev Inv-loop : tie.InvT-loop
 Inv-loop row w best₀ y₀ best y = Tried (entry row) w y best

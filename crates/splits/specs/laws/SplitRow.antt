@@ -13,7 +13,7 @@ use Rattle.subset.specs.Parts.{part-le, difference-part}
 use Rattle.working_none.specs.laws.WorkingNone.{workingNone}
 use Rattle.working_none.specs.laws.Low.{entry, AllLow}
 use Rattle.order_ranges.specs.laws.Ranges.{Ordered, OneSize, Outside, Inside, shorter, inside-or-out, part-outside}
-use Rattle.rows.specs.laws.BestSplit.{BestSplit, best-split-same}
+use Rattle.splits.specs.laws.BestSplit.{BestSplit, best-split-same}
 
 -- each cell of the sets at these positions is the least of itself and of its splits; the other cells stay
 pub record SplitRow (at : ℕ → ℕ) (first last : ℕ) (before after : List ℕ) : Type 0 where

@@ -1,13 +1,13 @@
--- `rows::split_rows` meets its contract. The loop's invariant: the rows so far are split.
+-- `splits::split_rows` meets its contract. The loop's invariant: the rows so far are split.
 -- Assumes nothing.
 use Prim.Native.Nat.{_-_, _≤_}
 use native.Mathlib.Omega.{arith}
 use borrow.Author.Needs.{needs}
 use Rattle.order.specs.Order.{inOrder}
 use Rattle.rows.specs.laws.Rows.{EachRow, row-small, rows-none, lent-length, lent-low, rows-next, rows-all}
-use Rattle.rows.specs.laws.SplitRow.{SplitRow}
-use Rattle.rows.proofs.split_rows.Statement.{statement}
-use Rattle.rows.proofs.split_rows.Tie as tie
+use Rattle.splits.specs.laws.SplitRow.{SplitRow}
+use Rattle.splits.proofs.split_rows.Statement.{statement}
+use Rattle.splits.proofs.split_rows.Tie as tie
 
 abbrev Inv-loop : tie.InvT-loop
 Inv-loop sets n size first last cells₀ v₀ cells v = (v ≤ n) × EachRow (λ v. SplitRow inOrder first last) n size v cells₀ cells

@@ -1,4 +1,4 @@
--- `layout_steps::part_splits` meets its contract. Each return has the tests that led to it.
+-- `layout_parts::part_splits` meets its contract. Each return has the tests that led to it.
 -- Assumes nothing.
 use Prim.Native.Nat.{ℕ, _+_, _^_}
 use mathlib.Core.Path.{_≡_, sym, ap, ap₂, _∙_}
@@ -11,9 +11,9 @@ use borrow.Author.Tests.{not-true, not-false}
 use Rattle.lists.specs.Tests.{and-fails, and-passes}
 use Rattle.subset.specs.Sets.{isPart}
 use Rattle.cost_table.specs.Cells.{cellIn}
-use Rattle.layout_steps.specs.laws.Tests.{none-no-split, part-in, rest-of}
-use Rattle.layout_steps.proofs.part_splits.Statement.{statement}
-use Rattle.layout_steps.proofs.part_splits.Tie as tie
+use Rattle.layout_parts.specs.laws.PartTests.{none-no-split, part-in, rest-of}
+use Rattle.layout_parts.proofs.part_splits.Statement.{statement}
+use Rattle.layout_parts.proofs.part_splits.Tie as tie
 
 is-part-of-requires : tie.Need-is-part-of-requires
 is-part-of-requires c κs = search needs

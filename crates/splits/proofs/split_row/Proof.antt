@@ -1,4 +1,4 @@
--- `rows::split_row` meets its contract. The loop's invariant: the sets at the positions so far are split.
+-- `splits::split_row` meets its contract. The loop's invariant: the sets at the positions so far are split.
 -- Assumes nothing.
 use Prim.Native.Nat.{_-_, _≤_}
 use mathlib.Core.Logic.{⊎-elim}
@@ -6,9 +6,9 @@ use native.Mathlib.Omega.{arith}
 use borrow.Author.Needs.{needs}
 use Rattle.order.specs.Order.{inOrder}
 use Rattle.order_ranges.specs.laws.InOrder.{in-order, not-empty, set-at, set-lt}
-use Rattle.rows.specs.laws.SplitRow.{SplitRow, split-none, split-over, split-next, split-low, split-all}
-use Rattle.rows.proofs.split_row.Statement.{statement}
-use Rattle.rows.proofs.split_row.Tie as tie
+use Rattle.splits.specs.laws.SplitRow.{SplitRow, split-none, split-over, split-next, split-low, split-all}
+use Rattle.splits.proofs.split_row.Statement.{statement}
+use Rattle.splits.proofs.split_row.Tie as tie
 
 abbrev Inv-loop : tie.InvT-loop
 Inv-loop sets row₀ first last position₀ row position = (first ≤ position) × (position ≤ last) × SplitRow inOrder first position row₀ row

@@ -1,0 +1,2 @@
+-- the test of a part
+pub mod PartTests
