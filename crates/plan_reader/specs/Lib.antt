@@ -1,11 +1,9 @@
--- what a reader must believe, its cases, the worked files, and what the marks say
+-- what a reader must believe, its cases, and the worked files
 pub mod Reader
 pub mod Rules
 pub mod Worked
-pub mod Marks
--- the file against the tables
-pub mod Against
--- the whole, and the mission's points
-pub mod Whole
+-- the mission's points
 pub mod PointTwo
 pub mod PointOne
+-- from the opening of the sheet on
+pub mod laws

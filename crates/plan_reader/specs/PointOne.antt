@@ -40,8 +40,9 @@ use Rattle.file_tests.specs.FileFaults.{headFault, arcFault, isFault, faultAt, 
 use Rattle.reaching.specs.Marks.{marksOf}
 use Rattle.reaching.specs.laws.MarkLaws.{marks-size}
 use Rattle.plan_tests.specs.PlanFaults.{firstFailed, treeFault}
-use Rattle.plan_reader.specs.Reader.{answered, marksBy, readAgainst, readingOf}
-use Rattle.plan_reader.specs.Marks.{MarksSay, marks-say}
+use Rattle.file_reader.specs.FileAnswer.{answered, marksBy}
+use Rattle.file_reader.specs.MarksSay.{MarksSay, marks-say}
+use Rattle.plan_reader.specs.Reader.{readAgainst, readingOf}
 use Rattle.plan_reader.specs.Rules.{given, filledWith, reachedMarks, file-refused, plan-refused, plan-accepted}
 use Rattle.plan_reader.specs.PointTwo.{point-two}
 

@@ -39,7 +39,8 @@ use Rattle.file_tests.specs.laws.Faults.{some-fault, FileOk, file-passes, file-
 use Rattle.file_tests.specs.laws.Returned.{FieldsOf}
 use Rattle.plan_tests.specs.PlanFaults.{planFault, treeFault}
 use Rattle.plan_tests.specs.laws.FirstFailed.{failed-none, none-failed}
-use Rattle.plan_reader.specs.Reader.{answered, answerTo, readingOf}
+use Rattle.file_reader.specs.FileAnswer.{answered, answerTo}
+use Rattle.plan_reader.specs.Reader.{readingOf}
 use Rattle.plan_reader.specs.Rules.{given, file-read}
 
 -- ---- the answer

@@ -23,7 +23,8 @@ use Rattle.mission.specs.Runs.{ReaderTables, readerTables, readerFurther, Reade
 use Rattle.file_tests.specs.FileFaults.{fileFault, orElse}
 use Rattle.reaching.specs.Marks.{marksOf}
 use Rattle.plan_tests.specs.PlanFaults.{treeFault}
-use Rattle.plan_reader.specs.Reader.{answered, marksBy, readAgainst, readingOf}
+use Rattle.file_reader.specs.FileAnswer.{answered, marksBy}
+use Rattle.plan_reader.specs.Reader.{readAgainst, readingOf}
 
 module _ (sheet file : List ℕ) (t : ReaderTables) where
   -- the run of an opening

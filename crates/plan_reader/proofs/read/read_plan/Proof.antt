@@ -9,7 +9,7 @@ use Rattle.lent_tables.specs.Lengths.{marksOnly}
 use Rattle.opener.specs.Opened.{opened-sheet, opened-refusal}
 use Rattle.network.specs.HeldSheet.{opened-held}
 use Rattle.mission.specs.Runs.{readerTables}
-use Rattle.plan_reader.specs.Whole.{refusal-read, whole-read}
+use Rattle.plan_reader.specs.laws.Whole.{refusal-read, whole-read}
 use Rattle.plan_reader.specs.PointOne.{cites-points}
 use borrow.Author.Needs.{needs}
 use Rattle.plan_reader.proofs.read.read_plan.Statement.{statement}

@@ -1,0 +1,2 @@
+-- the whole reading
+pub mod Whole
