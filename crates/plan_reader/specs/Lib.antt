@@ -1,5 +1,9 @@
--- what a reader must believe, and the worked files
+-- what a reader must believe, its cases, and the worked files
 pub mod Reader
+pub mod Rules
 pub mod Worked
--- the cases of the answer, the file against the tables, and the mission's points
+-- the mission's points
+pub mod PointTwo
+pub mod PointOne
+-- from the opening of the sheet on
 pub mod laws

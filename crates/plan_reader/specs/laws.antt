@@ -1,10 +1,2 @@
--- the cases of the answer, and what the marks say
-pub mod Rules
-pub mod MarksSay
--- the file against the tables
-pub mod Against
--- the whole, and the mission's points
+-- the whole reading
 pub mod Whole
-pub mod PointTwo
-pub mod DueFaults
-pub mod PointOne

@@ -13,8 +13,9 @@ use Rattle.opener.specs.Opening.{refuses, sheetOpening}
 use Rattle.opener.specs.Opened.{OpenedSheet}
 use Rattle.network.specs.HeldSheet.{opened-graph}
 use Rattle.mission.specs.Runs.{ReaderTables, readerTables, withReaderSheet, readerFurther, run}
-use Rattle.plan_reader.specs.Reader.{answerTo, marksAfter, readingOf}
-use Rattle.plan_reader.specs.laws.Rules.{given}
+use Rattle.file_reader.specs.FileAnswer.{answerTo, marksAfter}
+use Rattle.plan_reader.specs.Reader.{readingOf}
+use Rattle.plan_reader.specs.Rules.{given}
 
 module _ (s file : List ℕ) (t : ReaderTables) where
   -- 1 to 11

@@ -17,7 +17,7 @@ use Rattle.planfile.specs.Format.{rootIn, arcsIn}
 use Rattle.file_tests.specs.FileFaults.{fileFault}
 use Rattle.reaching.specs.Marks.{marksOf}
 use Rattle.reaching.specs.laws.MarkLaws.{marks-size, mark-at, marked-path, path-marked}
-use Rattle.plan_reader.specs.Reader.{marksBy, marksAfter}
+use Rattle.file_reader.specs.FileAnswer.{marksBy, marksAfter}
 
 -- what the marks say after a file without a fault of its own was read, where others stood before: "the first n marks are 1 for sites reached
 -- from the root by the listed legs, else 0"; "Entries past those named are untouched"

@@ -1,4 +1,4 @@
--- `plan_reader::read::read_file` meets its contract. The first n marks go to the reading of the listed legs.
+-- `file_reader::read_file` meets its contract. The first n marks go to the reading of the listed legs.
 -- Assumes nothing.
 use mathlib.Core.Path.{sym, _∙_}
 use native.Mathlib.Omega.{arith}
@@ -6,9 +6,9 @@ use lib.ListN.{length-take}
 use denote.Ref.{now}
 use borrow.Author.Needs.{needs}
 use Rattle.lent_tables.specs.SheetTables.{sheetTables}
-use Rattle.plan_reader.specs.laws.Against.{fault-read, arcs-ready, arcs-judged}
-use Rattle.plan_reader.proofs.read.read_file.Statement.{statement}
-use Rattle.plan_reader.proofs.read.read_file.Tie as tie
+use Rattle.file_reader.specs.laws.Against.{fault-read, arcs-ready, arcs-judged}
+use Rattle.file_reader.proofs.read_file.Statement.{statement}
+use Rattle.file_reader.proofs.read_file.Tie as tie
 
 open-file-requires : tie.Need-open-file-requires
 open-file-requires c κs = search needs

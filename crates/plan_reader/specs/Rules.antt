@@ -11,10 +11,10 @@ use Rattle.lists.specs.Over.{over}
 use Rattle.answer.specs.Stated.{plan, refused, ofTables, statedSheet, statedPlanFile}
 use Rattle.answer.specs.declared.PlanFault.{PlanFault}
 use Rattle.answer.specs.declared.SheetFault.{SheetFault}
-use Rattle.records.specs.Arcs.{arcs}
+use Rattle.sheet.specs.Arcs.{arcs}
 use Rattle.sheet.specs.Verdict.{good, bad, verdict}
-use Rattle.records.specs.declared.record.Record.{Record}
-use Rattle.record_tables.specs.Loaded.{loaded}
+use Rattle.sheet.specs.declared.record.Record.{Record}
+use Rattle.loader.specs.Loaded.{loaded}
 use Rattle.opener.specs.Opening.{SheetOpening}
 use Rattle.opener.specs.Cases.{opening-bad, opening-short, opening-good}
 use Rattle.network.specs.Network.{graphOf}
@@ -23,7 +23,8 @@ use Rattle.mission.specs.Runs.{ReaderTables, readerTables, readerFurther, Reade
 use Rattle.file_tests.specs.FileFaults.{fileFault, orElse}
 use Rattle.reaching.specs.Marks.{marksOf}
 use Rattle.plan_tests.specs.PlanFaults.{treeFault}
-use Rattle.plan_reader.specs.Reader.{answered, marksBy, readAgainst, readingOf}
+use Rattle.file_reader.specs.FileAnswer.{answered, marksBy}
+use Rattle.plan_reader.specs.Reader.{readAgainst, readingOf}
 
 module _ (sheet file : List ℕ) (t : ReaderTables) where
   -- the run of an opening

@@ -1,6 +1,6 @@
 -- A file read against the tables that hold a sheet: the marks and the tests that the code makes are those of the graph that the tables hold.
 -- Assumes nothing.
-use Prim.Native.Nat.{ℕ, _+_, _≤_, _<_}
+use Prim.Native.Nat.{ℕ, _+_, _<_}
 use mathlib.Core.Path.{_≡_, refl, sym, ap, ap₂, _∙_, subst}
 use mathlib.Core.Bool.{Bool, true, false}
 use mathlib.Core.Option.{Option, some}
@@ -8,7 +8,6 @@ use mathlib.Core.List.{List, [], _++_}
 use native.Mathlib.Omega.{arith}
 use lib.Dec.{T, eqb}
 use lib.ListN.{length, take, drop, length-take}
-use Rattle.limits.specs.Limits.{maxNodes, maxTerminals, maxArcs}
 use Rattle.lists.specs.Every.{Every}
 use Rattle.lists.specs.Listed.{listed, listed-every}
 use Rattle.lists.specs.Numbers.{length-values}
@@ -30,24 +29,14 @@ use Rattle.file_tests.specs.Tested.{openedOf}
 use Rattle.file_tests.specs.declared.Opened.the-variants.{Fields, Fault}
 use Rattle.file_tests.specs.laws.Faults.{FileOk, file-passed, listed-on}
 use Rattle.file_tests.specs.laws.Returned.{FieldsOf, opened-fields, opened-fault}
-use Rattle.marking.specs.Links.{linkGraph, Within, Below}
+use Rattle.marking.specs.Links.{linkGraph, Within}
 use Rattle.reaching.specs.Marks.{marksOf}
 use Rattle.reaching.specs.laws.MarkLaws.{marks-size, marks-agree}
 use Rattle.plan_tests.specs.PlanFaults.{firstFailed, planFault, treeFault, answeredAs}
-use Rattle.plan_tests.specs.ByMarks.{ArcsBelow, markedCount, markedTerminals, weightSum, judgedFault}
+use Rattle.plan_tests.specs.ByMarks.{markedCount, markedTerminals, weightSum, judgedFault}
 use Rattle.plan_tests.specs.laws.Judging.{tree-by-count, covering-by-marks, weights-sum}
-use Rattle.plan_reader.specs.Reader.{answered, answerTo, marksBy, marksAfter}
-
--- what the reading of the listed arcs asks for
-pub record ArcsReady (file : List ℕ) (root count k : ℕ) (t : SheetTables) (marks : List ℕ) : Type 0 where
-  pub root-on : root < length marks
-  pub few-nodes : length marks ≤ maxNodes
-  pub whole : fileSize count ≤ length file
-  pub within : Within (length marks) (arcsTo file count) (t .starts) (t .ends)
-  pub few-arcs : Below maxArcs (arcsTo file count)
-  pub below : ArcsBelow file count (length (t .weights))
-  pub landed : length marks ≤ length (t .landings)
-  pub terminals : k ≤ maxTerminals
+use Rattle.file_reader.specs.ArcsReady.{ArcsReady}
+use Rattle.file_reader.specs.FileAnswer.{answered, answerTo, marksBy, marksAfter}
 
 module _ (n k m : ℕ) (t : SheetTables) (marks file : List ℕ) (ready : HeldSheet n k m t (marksOnly (length marks))) where
   abbrev G : Graph

@@ -1,0 +1,2 @@
+-- the marks and the tests that the code makes are those of the graph that the tables hold
+pub mod Against
