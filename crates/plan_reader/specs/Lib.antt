@@ -1,9 +1,5 @@
--- what a reader must believe, its cases, and the worked files
+-- what a reader must believe, and the worked files
 pub mod Reader
-pub mod Rules
 pub mod Worked
--- the mission's points
-pub mod PointTwo
-pub mod PointOne
--- from the opening of the sheet on
+-- the cases of the answer, and the mission's points
 pub mod laws

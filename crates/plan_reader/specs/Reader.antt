@@ -4,8 +4,8 @@
 -- Assumes nothing.
 use Prim.Native.Nat.{ℕ}
 use mathlib.Core.List.{List}
-use Rattle.sheet.specs.declared.record.Record.{Record}
-use Rattle.loader.specs.Loaded.{loaded}
+use Rattle.records.specs.declared.record.Record.{Record}
+use Rattle.record_tables.specs.Loaded.{loaded}
 use Rattle.opener.specs.Opening.{sheetOpening}
 use Rattle.network.specs.Network.{graphOf}
 use Rattle.mission.specs.Runs.{ReaderTables, readerTables, readerFurther, Run, run, runOpened}

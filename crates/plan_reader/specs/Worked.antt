@@ -9,7 +9,7 @@ use Rattle.answer.specs.Stated.{plan, refused, ofSheet, ofTables, ofPlanFile}
 use Rattle.sheet.specs.Verdict.{verdict, readFor}
 use Rattle.sheet.specs.Worked.{sheetA, sheetD, sheetF}
 use Rattle.lent_tables.specs.SheetTables.{sheetTables}
-use Rattle.loader.specs.Loaded.{loaded}
+use Rattle.record_tables.specs.Loaded.{loaded}
 use Rattle.planfile.specs.Format.{encoding}
 use Rattle.mission.specs.Runs.{ReaderTables, readerTables, run}
 use Rattle.file_tests.specs.FileFaults.{fileFault}

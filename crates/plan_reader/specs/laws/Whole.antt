@@ -15,7 +15,7 @@ use Rattle.network.specs.HeldSheet.{opened-graph}
 use Rattle.mission.specs.Runs.{ReaderTables, readerTables, withReaderSheet, readerFurther, run}
 use Rattle.file_reader.specs.FileAnswer.{answerTo, marksAfter}
 use Rattle.plan_reader.specs.Reader.{readingOf}
-use Rattle.plan_reader.specs.Rules.{given}
+use Rattle.plan_reader.specs.laws.Rules.{given}
 
 module _ (s file : List ℕ) (t : ReaderTables) where
   -- 1 to 11

@@ -10,7 +10,7 @@ use Rattle.opener.specs.Opened.{opened-sheet, opened-refusal}
 use Rattle.network.specs.HeldSheet.{opened-held}
 use Rattle.mission.specs.Runs.{readerTables}
 use Rattle.plan_reader.specs.laws.Whole.{refusal-read, whole-read}
-use Rattle.plan_reader.specs.PointOne.{cites-points}
+use Rattle.plan_reader.specs.laws.PointOne.{cites-points}
 use borrow.Author.Needs.{needs}
 use Rattle.plan_reader.proofs.read.read_plan.Statement.{statement}
 use Rattle.plan_reader.proofs.read.read_plan.Tie as tie

@@ -1,7 +1,7 @@
 -- The mission, point 1, of the plan reader's answer as it is defined; and what a run of the plan reader cites of points 1 and 2.
 -- Assumes nothing.
 use Prim.Native.Nat.{ℕ, _≤_, _<_}
-use mathlib.Core.Path.{_≡_, refl, sym, ap, subst}
+use mathlib.Core.Path.{_≡_, refl, sym, ap, _∙_, subst}
 use mathlib.Core.Logic.{inl, inr}
 use mathlib.Core.Bool.{Bool, true, false, cond, not}
 use mathlib.Core.Option.{Option, none, some}
@@ -24,10 +24,10 @@ use Rattle.answer.specs.declared.Refusal.the-variants.{Sheet, PlanFile}
 use Rattle.graph.specs.Graph.{Graph}
 use Rattle.graph.specs.Paths.{DirectedPath}
 use Rattle.graph.specs.Subtrees.{total, isTree, isCovering}
-use Rattle.sheet.specs.Arcs.{arcs}
+use Rattle.records.specs.Arcs.{arcs}
 use Rattle.number_fields.specs.Fields.{Bytes, number16}
 use Rattle.sheet.specs.Verdict.{good, verdict}
-use Rattle.sheet.specs.declared.record.Record.{Record}
+use Rattle.records.specs.declared.record.Record.{Record}
 use Rattle.opener.specs.Opening.{SheetOpening}
 use Rattle.opener.specs.Cases.{by-opening-cases}
 use Rattle.network.specs.Network.{graphOf}
@@ -41,10 +41,11 @@ use Rattle.reaching.specs.Marks.{marksOf}
 use Rattle.reaching.specs.laws.MarkLaws.{marks-size}
 use Rattle.plan_tests.specs.PlanFaults.{firstFailed, treeFault}
 use Rattle.file_reader.specs.FileAnswer.{answered, marksBy}
-use Rattle.file_reader.specs.MarksSay.{MarksSay, marks-say}
+use Rattle.file_reader.specs.laws.MarksSay.{MarksSay, marks-say}
 use Rattle.plan_reader.specs.Reader.{readAgainst, readingOf}
-use Rattle.plan_reader.specs.Rules.{given, filledWith, reachedMarks, file-refused, plan-refused, plan-accepted}
-use Rattle.plan_reader.specs.PointTwo.{point-two}
+use Rattle.plan_reader.specs.laws.Rules.{given, filledWith, reachedMarks, file-read, file-refused, plan-refused, plan-accepted}
+use Rattle.plan_reader.specs.laws.DueFaults.{gets-due}
+use Rattle.plan_reader.specs.laws.PointTwo.{point-two}
 
 -- ---- the numbers of faults
 
@@ -249,9 +250,15 @@ past-tables (some FalseTotal) file family number place same = omega (arith, same
 pub point-one : ReaderPointOne readingOf
 point-one sheet file t = (
   safe sheet file t,
-  first-due sheet (t .tables) (readerFurther t) t (λ n k records. readAgainst n k records file t)
-      (λ n k records e family number place same.
-      past-tables (orElse (fileFault n (length (arcs records)) file) (treeFault (graphOf n k records) file)) file family number place same),
+  (
+    first-due sheet (t .tables) (readerFurther t) t (λ n k records. readAgainst n k records file t)
+        (λ n k records e family number place same.
+        past-tables (orElse (fileFault n (length (arcs records)) file) (treeFault (graphOf n k records) file)) file family number place same),
+    (λ n k records e long number place.
+        let same = ap (λ (r : Run ReaderTables). r .answer) (file-read sheet file t n k records e long) in
+        let (there, back) = gets-due (graphOf n k records) file number place in
+        ((λ q. there (sym same ∙ q)), (λ due. same ∙ back due))),
+  ),
 )
 
 -- a run with the defined outcome has it, and points 2 and 1 of it

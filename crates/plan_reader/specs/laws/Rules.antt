@@ -11,10 +11,10 @@ use Rattle.lists.specs.Over.{over}
 use Rattle.answer.specs.Stated.{plan, refused, ofTables, statedSheet, statedPlanFile}
 use Rattle.answer.specs.declared.PlanFault.{PlanFault}
 use Rattle.answer.specs.declared.SheetFault.{SheetFault}
-use Rattle.sheet.specs.Arcs.{arcs}
+use Rattle.records.specs.Arcs.{arcs}
 use Rattle.sheet.specs.Verdict.{good, bad, verdict}
-use Rattle.sheet.specs.declared.record.Record.{Record}
-use Rattle.loader.specs.Loaded.{loaded}
+use Rattle.records.specs.declared.record.Record.{Record}
+use Rattle.record_tables.specs.Loaded.{loaded}
 use Rattle.opener.specs.Opening.{SheetOpening}
 use Rattle.opener.specs.Cases.{opening-bad, opening-short, opening-good}
 use Rattle.network.specs.Network.{graphOf}

@@ -23,10 +23,10 @@ use Rattle.answer.specs.declared.PlanFault.{PlanFault}
 use Rattle.graph.specs.Graph.{Graph}
 use Rattle.graph.specs.Subtrees.{Subtree, total, isTree, isCovering}
 use Rattle.graph.specs.Theorems.{tree-test, covers-test, covers-all}
-use Rattle.sheet.specs.Arcs.{arcs}
+use Rattle.records.specs.Arcs.{arcs}
 use Rattle.number_fields.specs.Fields.{Bytes}
 use Rattle.sheet.specs.Verdict.{good, verdict}
-use Rattle.sheet.specs.declared.record.Record.{Record}
+use Rattle.records.specs.declared.record.Record.{Record}
 use Rattle.opener.specs.Opening.{SheetOpening}
 use Rattle.opener.specs.Cases.{by-opening-cases}
 use Rattle.network.specs.Network.{graphOf}
@@ -41,7 +41,7 @@ use Rattle.plan_tests.specs.PlanFaults.{planFault, treeFault}
 use Rattle.plan_tests.specs.laws.FirstFailed.{failed-none, none-failed}
 use Rattle.file_reader.specs.FileAnswer.{answered, answerTo}
 use Rattle.plan_reader.specs.Reader.{readingOf}
-use Rattle.plan_reader.specs.Rules.{given, file-read}
+use Rattle.plan_reader.specs.laws.Rules.{given, file-read}
 
 -- ---- the answer
 
