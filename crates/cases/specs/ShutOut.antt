@@ -4,6 +4,7 @@
 -- Assumes nothing.
 use Prim.Native.Nat.{ℕ, _+_, _*_, _≤_, _<_}
 use mathlib.Core.Path.{_≡_, refl, sym, ap, ap₂, _∙_}
+use mathlib.Core.Logic.{_≢_}
 use mathlib.Core.Bool.{Bool}
 use mathlib.Core.Option.{some}
 use mathlib.Core.List.{List, [], _∷_}
@@ -26,10 +27,10 @@ use Rattle.network.specs.Network.{graphOf}
 use Rattle.planfile.specs.Format.{fileBytes, fileSize, rootIn, totalIn, countIn}
 use Rattle.planfile.specs.FormatLaws.{encoding-fits, length-file}
 use Rattle.planfile.specs.Encoded.{encoding-fields}
-use Rattle.mission.specs.Runs.{EngineTables, EngineLong, Engine, Reader}
+use Rattle.mission.specs.Runs.{EngineTables, EngineLong, Engine, ReaderTables, readerTables, ReaderLong, Reader}
 use Rattle.mission.specs.Rule.{ByRule}
 use Rattle.mission.specs.OnePlan.{one-plan}
-use Rattle.mission.specs.PointTwo.{EngineSound, EnginePointTwo}
+use Rattle.mission.specs.PointTwo.{EncodesPlan, EngineSound, EnginePointTwo, ReaderPointTwo}
 use Rattle.mission.specs.PointThree.{SomeReachesAll, BufferLong, PointThree}
 use Rattle.mission.specs.PointLaws.{refused-not-plan, same-sheet}
 use Rattle.best_plan.specs.Plan.{Plan, planOf}
@@ -96,6 +97,27 @@ buffer-B root cost L rule =
     let (_, _, same) = one-plan (graphOf 1 1 recordsB) root 0 cost 0 L [] rule (found .by-rule) in
     omega (arith, ap length same)
 
+-- B's plan file, and what is lent to a plan reader of it
+abbrev fileB : List ℕ
+fileB = fileBytes 0 0 []
+
+bytes-file : Bytes fileB
+bytes-file = are-bytes fileB tt
+
+abbrev readerLent : ReaderTables
+readerLent = readerTables (lent .tables) (lent .marks)
+
+reader-long-B : ReaderLong 1 1 0 readerLent
+reader-long-B = record { tables = long-B .tables; further = record { cells = tt; marks = long-B .further .marks } }
+
+encodes-B : EncodesPlan (graphOf 1 1 recordsB) fileB 0 0 0
+encodes-B = record {
+  listed = [];
+  is-plan = sheet-found sheetB bytes-B 1 1 recordsB good-B planB plan-B .is-plan;
+  count-is = refl;
+  encoded = refl;
+}
+
 -- ---- what a plan is
 
 -- what stands at the start of a buffer
@@ -151,11 +173,18 @@ module _ (engine : Engine) (read : Reader) where
       let (none-reaches, _) = point sheetB bytes-B lent .plans-or-not 1 1 recordsB good-B long-B .no-plan in
       none-reaches told reaches-B
 
-  -- refusing every sheet: point 3 shuts it out; point 2 speaks of plans that are given, and of the plan reader, which may not refuse all files
+  -- refusing every sheet, of an engine by point 3
   pub refusing-shut-out : PointThree engine read → (family : Family) (number place : ℕ) → engine sheetB lent .answer ≡ refused family number place → ⊥
   refusing-shut-out point family number place told =
       let (root, cost, count, planned) = point sheetB bytes-B lent .plans-or-not 1 1 recordsB good-B long-B .plans reaches-B buffer-B in
       refused-not-plan (sym told ∙ planned)
+
+  -- refusing every file, of a plan reader by point 2: it may not refuse B's plan
+  pub refusing-reader-shut-out : ReaderPointTwo read → (family : Family) (number place : ℕ)
+      → read sheetB fileB readerLent .answer ≡ refused family number place → ⊥
+  refusing-reader-shut-out point family number place told =
+      let (_, accepts) = point sheetB fileB bytes-file readerLent 1 1 recordsB good-B reader-long-B 0 0 0 in
+      refused-not-plan (sym told ∙ accepts encodes-B)
 
   -- the same plan for every sheet, by point 2
   pub same-plan-shut-out : EnginePointTwo engine read → (root cost count : ℕ)
@@ -168,14 +197,6 @@ module _ (engine : Engine) (read : Reader) where
         plan-total read sheetD lent (engine sheetD lent .after) (engine sheetD lent .answer) (point sheetD bytes-D lent) root cost count for-D
             bytes-D 2 2 recordsD good-D planD plan-D,
       )
-
-  -- an untouched buffer called a plan, by point 2
-  pub untouched-shut-out : EnginePointTwo engine read → (sheet : List ℕ) → Bytes sheet → (root cost count : ℕ)
-      → engine sheet lent .answer ≡ plan root cost count → engine sheet lent .after .buffer ≡ lent .buffer → ⊥
-  untouched-shut-out point sheet bytes root cost count told untouched =
-      let s = plan-stands read sheet lent (engine sheet lent .after) (engine sheet lent .answer) (point sheet bytes lent) root cost count told in
-      let marks : number16 (lent .buffer) 0 ≡ markPN = ap (λ (l : List ℕ). number16 l 0) (sym untouched) ∙ s .mark in
-      omega (arith, marks)
 
   -- a leg count other than the legs listed, by point 2: the buffer starts with the file of as many legs as the count says
   pub count-shut-out : EnginePointTwo engine read → (sheet : List ℕ) → Bytes sheet → (t : EngineTables) (root cost count : ℕ)
@@ -190,6 +211,21 @@ module _ (engine : Engine) (read : Reader) where
         p .count-is,
         ap (take (fileSize count)) (p .written) ∙ take-at (p .file) (drop (length (p .file)) (t .buffer)) (fileSize count) so-many ∙ sym same,
       )
+
+  -- an untouched buffer called a plan, by point 2: whatever was lent, the untouched buffer would have to start with the plan's own file before
+  pub untouched-shut-out : EnginePointTwo engine read → (sheet : List ℕ) → Bytes sheet → (t : EngineTables) (root cost count : ℕ)
+      → engine sheet t .answer ≡ plan root cost count → engine sheet t .after .buffer ≡ t .buffer
+      → ((L : List ℕ) → length L ≡ count → take (fileSize count) (t .buffer) ≡ fileBytes root cost L → ⊥) → ⊥
+  untouched-shut-out point sheet bytes t root cost count told untouched no-file =
+      let (listed, so-many, file) = count-shut-out point sheet bytes t root cost count told in
+      no-file listed so-many (ap (take (fileSize count)) (sym untouched) ∙ file)
+
+  -- so also every buffer that does not start with the mark `PN`
+  pub unmarked-shut-out : EnginePointTwo engine read → (sheet : List ℕ) → Bytes sheet → (t : EngineTables) (root cost count : ℕ)
+      → engine sheet t .answer ≡ plan root cost count → engine sheet t .after .buffer ≡ t .buffer → number16 (t .buffer) 0 ≢ markPN → ⊥
+  unmarked-shut-out point sheet bytes t root cost count told untouched other =
+      let s = plan-stands read sheet t (engine sheet t .after) (engine sheet t .answer) (point sheet bytes t) root cost count told in
+      other (ap (λ (l : List ℕ). number16 l 0) (sym untouched) ∙ s .mark)
 
   -- and it is the count that stands in the file
   pub count-stands : EnginePointTwo engine read → (sheet : List ℕ) → Bytes sheet → (t : EngineTables) (root cost count : ℕ)
