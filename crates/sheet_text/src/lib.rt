@@ -1,6 +1,5 @@
-// What a loading of a sheet gave, as text on standard output: the verdict, the legs and the stations of each site. An answer, as text.
+// What a loading of a sheet gave, as text on standard output: the verdict, the legs and the stations of each site.
 // Every line ends in a line feed. Where a table is shorter than the counts say, only what it holds is written.
-use answer::Answer;
 use answer::Refusal;
 use answer::code_of;
 use libc::STDOUT_FILENO;
@@ -13,7 +12,7 @@ pub fn print(text: &[u8]) {
 }
 
 // Writes a text and the number after it.
-pub fn print_field(text: &[u8], value: u64) {
+fn print_field(text: &[u8], value: u64) {
     io::write_all(STDOUT_FILENO, text);
     io::print_decimal(STDOUT_FILENO, value);
 }
@@ -26,27 +25,11 @@ fn print_good(n: u16, k: u8, arcs: u16) {
 }
 
 // The number and the place of a refusal.
-pub fn print_refusal(refusal: Refusal) {
+fn print_refusal(refusal: Refusal) {
     let code = code_of(refusal);
     print_field(b"refused ", code.number as u64);
     print_field(b" at ", code.place as u64);
     print(b"\n");
-}
-
-fn print_plan(word: &[u8], root: u16, total: u64, arcs: u16) {
-    print(word);
-    print_field(b" root ", root as u64);
-    print_field(b" total ", total);
-    print_field(b" legs ", arcs as u64);
-    print(b"\n");
-}
-
-// A word and the root, the total and the leg count of a plan, or the number and the place of the refusal.
-pub fn print_answer(word: &[u8], answer: Answer) {
-    match answer {
-        Answer::Plan { root, total, arcs } => print_plan(word, root, total, arcs),
-        Answer::Refused(refusal) => print_refusal(refusal),
-    }
 }
 
 fn print_arc(i: usize, start: u16, end: u16, weight: u32) {
@@ -85,7 +68,7 @@ fn print_landings(n: u16, landings: &[u16]) {
 }
 
 // The first line: the counts of a good sheet, or the number and the place of the refusal.
-pub fn print_verdict(loaded: Loaded) {
+fn print_verdict(loaded: Loaded) {
     match loaded {
         Loaded::Sheet { n, k, arcs } => print_good(n, k, arcs),
         Loaded::Refused(refusal) => print_refusal(refusal),

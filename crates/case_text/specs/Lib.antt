@@ -1,2 +1,0 @@
--- what the contract of `decode` cites
-pub mod Within
