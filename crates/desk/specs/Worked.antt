@@ -1,4 +1,4 @@
--- Document 01's sheets A to J, as the desk program writes their texts, by computation; and numbers in decimal.
+-- Document 01's sheets A to J, as the desk program writes their texts, by computation.
 -- Assumes nothing.
 use mathlib.Core.Path.{_≡_, refl}
 use Rattle.sheet.specs.Verdict.{verdict, readFor}

@@ -11,8 +11,8 @@ use Rattle.subset.specs.Sets.{single, full, Part}
 use Rattle.graph.specs.Graph.{Graph, Landing}
 use Rattle.graph.specs.LeastTotals.{Least}
 
--- x is the finite cost of node v and a set w that is not empty: the least total over directed subtrees with root v that hold a landing of each
--- terminal of w
+-- x is the least total over the directed subtrees with root v that hold a landing of each terminal of w: such a tree exists and costs x, and none
+-- costs less. Of a set w that is not empty this is its finite cell; a cell of the empty set is 0, and the least total there is the charge of v
 abbrev pub Costs : Graph → (v w x : ℕ) → Type 0
 Costs G v w x = Least G v w x
 

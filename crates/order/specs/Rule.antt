@@ -15,8 +15,6 @@ use Rattle.limits.specs.Limits.{maxTerminals, maxSubsets}
 use Rattle.lists.specs.Count.{count, count-position}
 use Rattle.lists.specs.Every.{every-at}
 use Rattle.lists.specs.Sorted.{sorted-at}
-use Rattle.subset.specs.Sets.{Part}
-use Rattle.subset.specs.Sequences.{earlier-part}
 use Rattle.order.specs.Order.{ofSize, orderBy, order, inOrder}
 use Rattle.order.specs.BySize.{Before, once-orderBy, length-orderBy, every-orderBy, sorted-orderBy, same-orderBy}
 
@@ -79,10 +77,6 @@ one-position i j h k e =
     differ : (x y : ℕ) → Before ones x y → x ≡ y → ⊥
     differ x y (inl l) e = omega (arith, ap ones e)
     differ x y (inr b) e = omega arith
-
--- every part of a subset but itself stands before it
-pub part-earlier : (j y : ℕ) → j < maxSubsets → Part y (inOrder j) → y < inOrder j → (i : ℕ) × (i < j) × (inOrder i ≡ y)
-part-earlier j y h p l = earlier-part inOrder maxSubsets j y never-falls (position y (omega (arith, below j h))) h p l
 
 -- ten digits are enough to count the ones of a number below 2^10
 ones-in : (d n : ℕ) → n < 2 ^ d → ones n ≡ onesIn d n

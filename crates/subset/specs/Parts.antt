@@ -5,7 +5,7 @@
 use Prim.Native.Nat.{ℕ, zero, suc, _+_, _-_, _/_, _%_, _^_, _≤_, _<_}
 use mathlib.Core.Path.{_≡_, refl, sym, ap, _∙_, subst}
 use mathlib.Core.Logic.{_≢_, _⊎_, inl, inr, _↔_}
-use mathlib.Core.Bool.{Bool, true, not, _&&_, _||_, or-assoc}
+use mathlib.Core.Bool.{Bool, true, _||_, or-assoc}
 use native.Mathlib.Nat.{mod-eq-of-lt}
 use native.Mathlib.Omega.{arith}
 use lib.Arith.{bin-ind}
@@ -15,7 +15,7 @@ use lib.Bits.{bitAnd, and-step, and-comm, and-le-r, and-le-l, and-zero-l, and-ma
 use borrow.Author.Tests.{eq-eqb, eqb-true}
 use Rattle.lists.specs.Tests.{eq-fact, and-right, or-cases, or-left, or-right}
 use Rattle.subset.specs.Sets.{full, single, has, Part, isPart, rest, union}
-use Rattle.subset.specs.Terminals.{has-zero, has-suc, has-and, has-union, has-rest, has-single, has-full}
+use Rattle.subset.specs.Terminals.{has-zero, has-suc, has-and, has-union, has-single, has-full}
 
 -- ---- a part, and its stations
 
@@ -63,9 +63,6 @@ same-terminals a b h =
 
 pub part-le : (y w : ℕ) → Part y w → y ≤ w
 part-le y w p = subst (λ (x : ℕ). x ≤ w) p (and-le-r y w)
-
-pub part-trans : (x y w : ℕ) → Part x y → Part y w → Part x w
-part-trans x y w p q = has-part x w (λ i t. part-has y w q i (part-has x y p i t))
 
 -- a single station's set is a part of each set that has the station
 pub single-part : (i w : ℕ) → T (has w i) → Part (single i) w
@@ -138,10 +135,6 @@ part-union-left a b = has-part a (union a b) (λ i t. subst T (sym (has-union a 
 pub part-union-right : (a b : ℕ) → Part b (union a b)
 part-union-right a b = has-part b (union a b) (λ i t. subst T (sym (has-union a b i)) (or-right (has a i) (has b i) t))
 
--- two parts with no station in common: their sum is a part
-pub sum-part : (y z w : ℕ) → bitAnd y z ≡ 0 → Part y w → Part z w → Part (y + z) w
-sum-part y z w d p q = subst (λ (x : ℕ). Part x w) (or-disjoint y z d) (union-part y z w p q)
-
 -- two sets with no station in common are parts of their sum
 pub part-sum : (y z : ℕ) → bitAnd y z ≡ 0 → Part y (y + z)
 part-sum y z d = subst (λ (x : ℕ). Part y x) (or-disjoint y z d) (part-union-left y z)
@@ -167,10 +160,6 @@ rest-part = bin-ind (λ (w : ℕ). (y : ℕ) → Part (rest w y) w) (λ y. refl)
         let h = half (y / 2) in
         let t = and-step (rest w y) w in
         omega (arith, ap (λ (x : ℕ). bitAnd x (w / 2)) e)
-
--- the stations of the difference
-pub has-difference : (w y i : ℕ) → Part y w → has (w - y) i ≡ (has w i && not (has y i))
-has-difference w y i p = ap (λ (x : ℕ). has x i) (sym (rest-difference w y p)) ∙ has-rest w y i
 
 pub difference-part : (w y : ℕ) → Part y w → Part (w - y) w
 difference-part w y p = subst (λ (x : ℕ). Part x w) (rest-difference w y p) (rest-part w y)

@@ -2,14 +2,14 @@
 -- above `top`; and that the sum of a set's cells falls.
 -- Assumes nothing.
 use Prim.Native.Nat.{ℕ, _^_, _≤_, _<_}
-use mathlib.Core.Path.{_≡_, refl, sym, ap₂, subst}
-use mathlib.Core.Logic.{_≢_, _⊎_, inl, inr}
+use mathlib.Core.Path.{_≡_, sym, ap₂, subst}
+use mathlib.Core.Logic.{_≢_}
 use mathlib.Core.Bool.{_&&_, cond}
 use native.Mathlib.Omega.{arith}
 use lib.Dec.{eqb, eqb→eq, eqb-refl}
 use Rattle.lists.specs.Tests.{by-fact, and-left, and-right, and-both, choice-first}
 use Rattle.lists.specs.Sums.{sumTo, sumTo-lt}
-use Rattle.graph.specs.Graph.{Graph, Sound}
+use Rattle.graph.specs.Graph.{Graph}
 use Rattle.graph.specs.ClosedSupported.{Support, by-landing, by-arc, by-split, Supported, Capped, put}
 
 -- ---- one cell
@@ -22,11 +22,6 @@ by-put c v w x u y P f g = by-fact (eqb u v && eqb y w) (λ b. P (cond b x (c u 
 -- the cell of v and w is x
 pub put-at : (c : ℕ → ℕ → ℕ) (v w x : ℕ) → put c v w x v w ≡ x
 put-at c v w x = choice-first (eqb v v && eqb w w) x (c v w) (and-both (eqb v v) (eqb w w) (eqb-refl v) (eqb-refl w))
-
--- the cells of other nodes and of other sets are as before
-pub put-other : (c : ℕ → ℕ → ℕ) (v w x u y : ℕ) → (u ≢ v) ⊎ (y ≢ w) → put c v w x u y ≡ c u y
-put-other c v w x u y (inl n) = by-put c v w x u y (λ z. z ≡ c u y) (λ p q. absurd (n p)) refl
-put-other c v w x u y (inr n) = by-put c v w x u y (λ z. z ≡ c u y) (λ p q. absurd (n q)) refl
 
 -- no cell rises where the new one does not
 pub put-le : (c : ℕ → ℕ → ℕ) (v w x : ℕ) → x ≤ c v w → (u y : ℕ) → put c v w x u y ≤ c u y
@@ -56,15 +51,6 @@ lower-supported G c top v w x le s S u y on ne small finite =
 -- a table in which no cell is finite but those of the empty set is supported
 pub unfilled-supported : (G : Graph) (c : ℕ → ℕ → ℕ) (top : ℕ) → ((v w : ℕ) → v < G .nodes → w ≢ 0 → w < 2 ^ G .terminals → top ≤ c v w) → Supported G c top
 unfilled-supported G c top full v w on ne small finite = absurd (omega (arith, full v w on ne small))
-
--- a table with the same cells as a supported one is supported
-pub supported-same : (G : Graph) → Sound G → (c d : ℕ → ℕ → ℕ) (top : ℕ) → ((v w : ℕ) → v < G .nodes → w < 2 ^ G .terminals → d v w ≡ c v w)
-    → Supported G c top → Supported G d top
-supported-same G sound c d top same S v w on ne small finite =
-    let e : d v w ≡ c v w = same v w on small in
-    subst (Support G d top v w) (sym e)
-    (support-lower G c d top v w (c v w) (λ a l. omega (arith, same (G .end a) w (sound .end-lt a l) small)) (λ y l. omega (arith, same v y on (omega arith)))
-    (S v w on ne small (omega arith)))
 
 -- lowering a cell leaves no cell above `top`
 pub lower-capped : (G : Graph) (c : ℕ → ℕ → ℕ) (top v w x : ℕ) → x ≤ c v w → Capped G c top → Capped G (put c v w x) top
