@@ -46,7 +46,7 @@ file-plan : (sheet file : List ℕ) → Bytes file → (t : ReaderTables) → Ac
     → (n k : ℕ) (records : List Record) → verdict sheet ≡ good n k records → FilePlan (graphOf n k records) file
 file-plan sheet file bytes t (root, cost, count, told) n k records e =
     let a = accepted-good sheet file t root cost count told in
-    let long = same-sheet (λ n k records. ReaderLong n k (length (arcs records)) t) sheet (a .good-sheet) e (a .long) in
+    let long = same-sheet (λ n k records. ReaderLong n k (length (arcs records)) t) sheet (a .good-sheet) e (a .holds) in
     let (encodes, _) = reads-plans sheet file bytes t n k records e long root cost count in
     let p = encodes told in
     record {

@@ -32,7 +32,7 @@ use Rattle.opener.specs.Cases.{by-opening-cases}
 use Rattle.network.specs.Network.{graphOf}
 use Rattle.planfile.specs.Format.{rootIn, totalIn, countIn, listedArc, arcsIn}
 use Rattle.planfile.specs.Encoded.{WellFormed, FieldsAre, fields-encoding, encoding-fields}
-use Rattle.mission.specs.Runs.{ReaderTables, readerFurther, ReaderLong, Run}
+use Rattle.mission.specs.Runs.{GoodWith, ReaderTables, readerFurther, ReaderLong, Run}
 use Rattle.mission.specs.PointTwo.{EncodesPlan, ReaderPointTwo}
 use Rattle.file_tests.specs.FileFaults.{fileFault, orElse}
 use Rattle.file_tests.specs.laws.Faults.{some-fault, FileOk, file-passes, file-passed, listed-on}
@@ -141,18 +141,13 @@ point-two sheet file bytes t n k records e long root cost count =
 
 -- ---- an acceptance is of a good sheet, with long enough tables
 
-pub record Accepting (sheet : List ℕ) (t : ReaderTables) : Type 0 where
-  pub n : ℕ
-  pub k : ℕ
-  pub records : List Record
-  pub good-sheet : verdict sheet ≡ good n k records
-  pub long : ReaderLong n k (length (arcs records)) t
-
-pub accepted-good : (sheet file : List ℕ) (t : ReaderTables) (root cost count : ℕ) → readingOf sheet file t .answer ≡ plan root cost count → Accepting sheet t
+pub accepted-good : (sheet file : List ℕ) (t : ReaderTables) (root cost count : ℕ) → readingOf sheet file t .answer ≡ plan root cost count
+    → GoodWith sheet (λ n k records. ReaderLong n k (length (arcs records)) t)
 accepted-good sheet file t root cost count =
-    by-opening-cases sheet (t .tables) (readerFurther t) (λ (o : SheetOpening). given sheet file t o .answer ≡ plan root cost count → Accepting sheet t)
+    by-opening-cases sheet (t .tables) (readerFurther t)
+    (λ (o : SheetOpening). given sheet file t o .answer ≡ plan root cost count → GoodWith sheet (λ n k records. ReaderLong n k (length (arcs records)) t))
     (record {
       spoilt = λ fault e q. absurd (refusal-no-plan (Sheet fault) root cost count q);
       short = λ n k records e short q. absurd (refusal-no-plan (Tables ShortTables) root cost count q);
-      long = λ n k records e long q. record { n = n; k = k; records = records; good-sheet = e; long = long };
+      long = λ n k records e long q. record { n = n; k = k; records = records; good-sheet = e; holds = long };
     })
