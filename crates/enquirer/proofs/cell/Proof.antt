@@ -97,7 +97,8 @@ module _ {M : Type 1} (𝓤 : URA M) (H : Heap 𝓤) (A : Atoms 𝓤) (W : Given
   to-cell r u = (((κ, tt), (q, tt), tt, (r, (v, (w, tt))), (u ∷ [], (vint w32 v ∷ [], (vint w32 w ∷ [], tt)))), tt)
 
   goes-cell : (r : Enquirer) (u : Val) → ent 𝓤 (⋆ 𝓤 H A (‵ (Held (κ, tt) .own r (u ∷ [])) ∷ (‵ (flft κ q) ⊛ ‵ ftrue) ∷ [])) (Cell 𝓤 H A mem run .pre (to-cell r u))
-  goes-cell r u = qed W (‵ (Held (κ, tt) .own r (u ∷ [])) ∷ (‵ (flft κ q) ⊛ ‵ ftrue) ∷ []) ∵ nothing ! $ owned ! u32 (Is u32) (uint-makes 𝓤 H A W w32) w _ (refl, okw) $ fjoin ! $ owned ! u32 (Is u32) (uint-makes 𝓤 H A W w32) v _ (refl, okv) $ fjoin ! $ move ! (1 ∷ 0 ∷ []) $ fjoin ! $ move ! (1 ∷ 0 ∷ []) $ join ! $ frame ! $ done !
+  goes-cell r u = qed W (‵ (Held (κ, tt) .own r (u ∷ [])) ∷ (‵ (flft κ q) ⊛ ‵ ftrue) ∷ []) ∵ nothing ! $ owned ! u32 (Is u32) (uint-makes 𝓤 H A W w32) w _ (refl, okw) $ fjoin ! $
+      owned ! u32 (Is u32) (uint-makes 𝓤 H A W w32) v _ (refl, okv) $ fjoin ! $ move ! (1 ∷ 0 ∷ []) $ fjoin ! $ move ! (1 ∷ 0 ∷ []) $ join ! $ frame ! $ done !
 
   cell-said : (r : Enquirer) (t : Enquiry) → ent 𝓤 (ensured 𝓤 H A cell.ended (cell.clauses 𝓤 H A mem run) (κ, tt) (r, (v, (w, tt))) tt t) (fact 𝓤 (SaysOf r t))
   cell-said r t = exE 𝓤 _ (λ ws. snd∗ 𝓤 (sem 𝓤 H A (lasts cell.ended (κ, tt) (r, (v, (w, tt))) ws)) (fact 𝓤 (SaysOf r t)))
@@ -106,7 +107,8 @@ module _ {M : Type 1} (𝓤 : URA M) (H : Heap 𝓤) (A : Atoms 𝓤) (W : Given
   exits t u e =
       qed W (‵ (S.the-row .own t (u ∷ [])) ∷ (‵ (flft κ q) ⊛ ‵ ftrue) ∷ ‵ (OwnedSlice κ s) ∷ []) ∵
       suffices ! _ (ends-at 𝓤 H A ask.ended stayed (ask.clauses 𝓤 H A mem run) W (((κ, tt), (q, tt), tt, (s, (n, (k, (v, (w, tt))))), at), tt) u t (tt, (tt, (tt, (tt, (tt, tt))))) (tt, (tt, (tt, (tt, (tt, tt)))))) $ says ! e $
-      move ! (1 ∷ []) $ frame ! $ nothing ! $ owned ! u32 (Is u32) (uint-makes 𝓤 H A W w32) w _ (refl, okw) $ fjoin ! $ owned ! u32 (Is u32) (uint-makes 𝓤 H A W w32) v _ (refl, okv) $ fjoin ! $ owned ! u32 (Is u32) (uint-makes 𝓤 H A W w32) k _ (refl, okk) $ fjoin ! $ owned ! u32 (Is u32) (uint-makes 𝓤 H A W w32) n _ (refl, okn) $ fjoin ! $ move ! (2 ∷ 0 ∷ []) $ fjoin ! $ frame ! $ done !
+      move ! (1 ∷ []) $ frame ! $ nothing ! $ owned ! u32 (Is u32) (uint-makes 𝓤 H A W w32) w _ (refl, okw) $ fjoin ! $
+      owned ! u32 (Is u32) (uint-makes 𝓤 H A W w32) v _ (refl, okv) $ fjoin ! $ owned ! u32 (Is u32) (uint-makes 𝓤 H A W w32) k _ (refl, okk) $ fjoin ! $ owned ! u32 (Is u32) (uint-makes 𝓤 H A W w32) n _ (refl, okn) $ fjoin ! $ move ! (2 ∷ 0 ∷ []) $ fjoin ! $ frame ! $ done !
 
   module _ (C : Calls 𝓤 H) (Λ : Loops 𝓤 H) (fm : FmC 𝓤 H (W .laws) C) (known-new : Triple 𝓤 (C #enquirer·new) (New 𝓤 H A mem run)) (known-cell : Triple 𝓤 (C #enquirer·cell) (Cell 𝓤 H A mem run)) where
     walk : Is (ShrSlice (named 0) κ u32) s (slice-of s ∷ []) → ent 𝓤 (onEntry 𝓤 H A ask.signature (κ, tt) (q, tt) (s, (n, (k, (v, (w, tt))))) at) (WpFn 𝓤 H C Λ code.function (slice-of s ∷ vint w32 n ∷ vint w32 k ∷ vint w32 v ∷ vint w32 w ∷ []) Post)
@@ -141,7 +143,10 @@ module _ {M : Type 1} (𝓤 : URA M) (H : Heap 𝓤) (A : Atoms 𝓤) (W : Given
 asked-meets : {M : Type 1} (𝓤 : URA M) (H : Heap 𝓤) (A : Atoms 𝓤) (W : Given 𝓤 H A) (mem : Memory → SProp 𝓤) (run : Routine → Fun 𝓤) (𝓣 : Tables 𝓤 H)
     → Triple 𝓤 (𝓣 .C #enquirer·new) (New 𝓤 H A mem run) → Triple 𝓤 (𝓣 .C #enquirer·cell) (Cell 𝓤 H A mem run)
     → Meets 𝓤 H A ask.signature (WpFn 𝓤 H (𝓣 .C) (𝓣 .Λ) code.function) (ask.spec 𝓤 H A mem run)
-asked-meets 𝓤 H A W mem run 𝓣 known-new known-cell = walk-meets 𝓤 H A ask.ended stayed W (goes-none-slice 𝓤 H A W 1 (0 ∷ []) tt (plain (λ _. u32)) yes, (goes-none 𝓤 H A W 1 (λ _. u32) yes (λ κs x f. refl), (goes-none 𝓤 H A W 1 (λ _. u32) yes (λ κs x f. refl), (goes-none 𝓤 H A W 1 (λ _. u32) yes (λ κs x f. refl), (goes-none 𝓤 H A W 1 (λ _. u32) yes (λ κs x f. refl), tt))))) (ask.clauses 𝓤 H A mem run) (WpFn 𝓤 H (𝓣 .C) (𝓣 .Λ) code.function) (WpFn-mono 𝓤 H (W .laws) 𝓣 code.function)
+asked-meets 𝓤 H A W mem run 𝓣 known-new known-cell =
+    walk-meets 𝓤 H A ask.ended stayed W
+    (goes-none-slice 𝓤 H A W 1 (0 ∷ []) tt (plain (λ _. u32)) yes, (goes-none 𝓤 H A W 1 (λ _. u32) yes (λ κs x f. refl), (goes-none 𝓤 H A W 1 (λ _. u32) yes (λ κs x f. refl), (goes-none 𝓤 H A W 1 (λ _. u32) yes (λ κs x f. refl), (goes-none 𝓤 H A W 1 (λ _. u32) yes (λ κs x f. refl), tt)))))
+    (ask.clauses 𝓤 H A mem run) (WpFn 𝓤 H (𝓣 .C) (𝓣 .Λ) code.function) (WpFn-mono 𝓤 H (W .laws) 𝓣 code.function)
     (asked-walks 𝓤 H A W mem run (𝓣 .C) (𝓣 .Λ) (fmOf 𝓤 H (W .laws) 𝓣) known-new known-cell)
 
 pub cell-spec : {M : Type 1} → stated.statement M

@@ -143,7 +143,10 @@ module _ {M : Type 1} (𝓤 : URA M) (H : Heap 𝓤) (A : Atoms 𝓤) (W : Given
 cell-meets : {M : Type 1} (𝓤 : URA M) (H : Heap 𝓤) (A : Atoms 𝓤) (W : Given 𝓤 H A) (mem : Memory → SProp 𝓤) (run : Routine → Fun 𝓤) (𝓣 : Tables 𝓤 H)
     → Triple 𝓤 (𝓣 .C #enquirer·cell-in) (CellIn 𝓤 H A mem run)
     → Meets 𝓤 H A cell.signature (WpFn 𝓤 H (𝓣 .C) (𝓣 .Λ) code.function) (cell.spec 𝓤 H A mem run)
-cell-meets 𝓤 H A W mem run 𝓣 known-cell = walk-meets 𝓤 H A cell.ended stayed W (goes-none 𝓤 H A W 1 Held yes (λ κs x f. refl), (goes-none 𝓤 H A W 1 (λ _. u32) yes (λ κs x f. refl), (goes-none 𝓤 H A W 1 (λ _. u32) yes (λ κs x f. refl), tt))) (cell.clauses 𝓤 H A mem run) (WpFn 𝓤 H (𝓣 .C) (𝓣 .Λ) code.function) (WpFn-mono 𝓤 H (W .laws) 𝓣 code.function)
+cell-meets 𝓤 H A W mem run 𝓣 known-cell =
+    walk-meets 𝓤 H A cell.ended stayed W
+    (goes-none 𝓤 H A W 1 Held yes (λ κs x f. refl), (goes-none 𝓤 H A W 1 (λ _. u32) yes (λ κs x f. refl), (goes-none 𝓤 H A W 1 (λ _. u32) yes (λ κs x f. refl), tt)))
+    (cell.clauses 𝓤 H A mem run) (WpFn 𝓤 H (𝓣 .C) (𝓣 .Λ) code.function) (WpFn-mono 𝓤 H (W .laws) 𝓣 code.function)
     (cell-walks 𝓤 H A W mem run (𝓣 .C) (𝓣 .Λ) (fmOf 𝓤 H (W .laws) 𝓣) known-cell)
 
 pub cell-spec : {M : Type 1} → stated.statement M
