@@ -38,31 +38,18 @@ use Rattle.best_plan.specs.Plan.{Plan, planOf, withFile}
 use Rattle.engine.specs.Engine.{searched, planningOf}
 use Rattle.engine.specs.laws.Rules.{by-cases}
 use Rattle.best_plan.specs.laws.Found.{PlanFound, sheet-found}
-use Rattle.desk_lines.specs.Lines.{refusalLine, firstLine, arcLine}
+use Rattle.desk_lines.specs.Lines.{firstLine, arcLine}
 use Rattle.desk.specs.Text.{refusalText, arcText, planText, deskArcs, deskNodes, deskCells, deskTree, deskFits, sheetText}
-use Rattle.desk_lines.specs.Stored.{Stored, stored-then}
-use Rattle.desk_lines.specs.Listed.{lineOf, ArcsHeld}
+use Rattle.desk_answer.specs.AnswerText.{lineOf, answerText, listedLegs}
+use Rattle.desk_answer.specs.Listable.{ArcsHeld, Listable}
 
 -- ---- the text of an answer
-
--- a plan is listed by the tables and the plan buffer
-abbrev pub answerText : Stated → (starts ends weights buffer : List ℕ) → List ℕ
-answerText (plan root cost count) starts ends weights buffer =
-    firstLine root cost count ++ joined (lineOf starts ends weights) (arcsTo buffer count)
-answerText (refused family number place) starts ends weights buffer = refusalLine number place
-answerText (cell cost) starts ends weights buffer = []
-answerText (sender node) starts ends weights buffer = []
-answerText noSender starts ends weights buffer = []
-
--- the legs of a plan are held, and there are fewer of them than sites
-pub record Listable (s : Stated) (starts ends weights buffer : List ℕ) : Type 0 where
-  pub held : (root cost count : ℕ) → s ≡ plan root cost count → ArcsHeld buffer count starts ends weights
-  pub few : (root cost count : ℕ) → s ≡ plan root cost count → count ≤ deskTree
 
 -- the answer to a sheet has the text of the sheet
 pub record Answered (sheet : List ℕ) (s : Stated) (starts ends weights buffer : List ℕ) : Type 0 where
   pub same : answerText s starts ends weights buffer ≡ sheetText sheet
   pub listable : Listable s starts ends weights buffer
+  pub few : listedLegs s ≤ deskTree
 
 abbrev AnsweredBy : List ℕ → Run EngineTables → Type 0
 AnsweredBy sheet r =
@@ -102,10 +89,14 @@ fault-text (Unheard place) starts ends weights buffer = refl
 
 nothing-listed : {s : Stated} {starts ends weights buffer : List ℕ} → ((root cost count : ℕ) → s ≡ plan root cost count → ⊥)
     → Listable s starts ends weights buffer
-nothing-listed never = record {
-  held = λ root cost count same. absurd (never root cost count same);
-  few = λ root cost count same. absurd (never root cost count same);
-}
+nothing-listed never = record { held = λ root cost count same. absurd (never root cost count same) }
+
+no-legs : (s : Stated) → ((root cost count : ℕ) → s ≡ plan root cost count → ⊥) → listedLegs s ≤ deskTree
+no-legs (plan root cost count) never = absurd (never root cost count refl)
+no-legs (refused family number place) never = omega arith
+no-legs (cell cost) never = omega arith
+no-legs (sender node) never = omega arith
+no-legs noSender never = omega arith
 
 -- ---- the desk's tables
 
@@ -235,26 +226,9 @@ module _ (sheet : List ℕ) (bytes : Bytes sheet) (t : EngineTables) (n k : ℕ)
     listable = record {
       held = λ root cost count same.
           same-plan (λ a b c. ArcsHeld (after .buffer) c (after .tables .starts) (after .tables .ends) (after .tables .weights)) same plan-held;
-      few = λ root cost count same. same-plan (λ a b c. c ≤ deskTree) same few-arcs;
     };
+    few = few-arcs;
   }
-
--- ---- what is stored
-
-module _ {s : Stated} (starts ends weights buffer : List ℕ) where
-  -- the first line and the lines of the legs are the text of a plan
-  pub stored-plan : {root cost count next end : ℕ} {before between after : List ℕ} → plan root cost count ≡ s
-      → Stored (firstLine root cost count) 0 next before between
-      → Stored (joined (lineOf starts ends weights) (arcsTo buffer count)) next end between after
-      → Stored (answerText s starts ends weights buffer) 0 end before after
-  stored-plan {root} {cost} {count} {next} {end} {before} {between} {after} e first rest =
-      subst (λ (x : Stated). Stored (answerText x starts ends weights buffer) 0 end before after) e (stored-then first rest)
-
-  -- the line of a refusal is its text
-  pub stored-refusal : {family : Family} {number place end : ℕ} {before after : List ℕ} → refused family number place ≡ s
-      → Stored (refusalLine number place) 0 end before after → Stored (answerText s starts ends weights buffer) 0 end before after
-  stored-refusal {family} {number} {place} {end} {before} {after} e line =
-      subst (λ (x : Stated). Stored (answerText x starts ends weights buffer) 0 end before after) e line
 
 -- ---- the answer to any sheet
 
@@ -268,11 +242,13 @@ answered sheet bytes t d s after ran = subst (AnsweredBy sheet) (sym ran)
           record {
             same = fault-text fault (t .tables .starts) (t .tables .ends) (t .tables .weights) (t .buffer) ∙ sym (text-refused sheet fault e);
             listable = nothing-listed (refusal-no-plan (Sheet fault));
+            few = no-legs (statedSheet fault) (refusal-no-plan (Sheet fault));
           };
       short = λ n k records e short.
           record {
             same = sym (text-good sheet n k records e false (short-fails n k (length (arcs records)) t d short));
             listable = nothing-listed (λ root cost count same. refused-not-plan same);
+            few = omega arith;
           };
       long = λ n k records e long. record {
         none-found = λ q.
@@ -281,6 +257,7 @@ answered sheet bytes t d s after ran = subst (AnsweredBy sheet) (sym ran)
                   sym (text-good sheet n k records e true (long-fits n k (length (arcs records)) t d long)
                   ∙ ap (planText (graphOf n k records)) q);
               listable = nothing-listed (λ root cost count same. refused-not-plan same);
+              few = omega arith;
             };
         too-long = λ p q over. absurd (omega (arith, few-arcs sheet bytes t n k records e long d p q, d .buffer));
         found = λ p q fits. plan-answered sheet bytes t n k records e long d p q;

@@ -9,9 +9,10 @@ use lib.Dec.{ltb}
 use lib.ListN.{length}
 use borrow.Author.Tests.{lt-ltb, le-ltb}
 use Rattle.lists.specs.Over.{fitOver}
-use Rattle.desk_lines.specs.Lines.{ascii}
+use Rattle.desk_words.specs.Words.{ascii}
 use Rattle.desk.specs.Text.{deskBytes, textBytes, sheetText, deskText}
-use Rattle.desk_lines.specs.Stored.{Stored, stored-same, stored-first}
+use Rattle.desk_words.specs.Stored.{Stored}
+use Rattle.desk_words.specs.laws.Storing.{stored-same, stored-first}
 
 -- what is written for the input, and what is returned
 abbrev Written : (input : List ℕ) → (end : ℕ) → (before after : List ℕ) → Type 0

@@ -15,7 +15,8 @@ use Rattle.sheet.specs.Verdict.{verdict}
 use Rattle.opener.specs.Opening.{byVerdict, byOpening}
 use Rattle.network.specs.Network.{graphOf}
 use Rattle.best_plan.specs.Plan.{Plan, planOf}
-use Rattle.desk_lines.specs.Lines.{ascii, refusalLine, firstLine, arcLine}
+use Rattle.desk_words.specs.Words.{ascii}
+use Rattle.desk_lines.specs.Lines.{refusalLine, firstLine, arcLine}
 
 -- a leg of the graph
 abbrev pub arcText : Graph → ℕ → List ℕ

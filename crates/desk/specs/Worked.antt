@@ -4,7 +4,7 @@ use mathlib.Core.Path.{_≡_, refl}
 use Rattle.sheet.specs.Verdict.{verdict, readFor}
 use Rattle.sheet.specs.Worked.{sheetA, sheetB, sheetC, sheetD, sheetE, sheetF, sheetG, sheetH, sheetI, sheetJ}
 use Rattle.best_plan.specs.Plan.{planOf}
-use Rattle.desk_lines.specs.Lines.{ascii, decimal}
+use Rattle.desk_words.specs.Words.{ascii, decimal}
 use Rattle.desk.specs.Text.{sheetText, deskText}
 
 pub texts-settled :

@@ -1,20 +1,14 @@
 // The text that the desk program writes for an input: the sheet is planned with the desk's tables, and the answer is written as text.
-use answer::Answer;
-use answer::code_of;
-use desk_lines::lines::put_arcs;
-use desk_lines::lines::put_first;
-use desk_lines::lines::put_refusal;
-use desk_lines::words::put_word;
+use desk_answer::put_answer;
+use desk_words::put_word;
 use engine::planning::plan_sheet;
 use limits::Cost;
 ghost use mathlib.Core.Path.{_≡_};
 ghost use Prim.Native.Nat.{_≤_};
 ghost use lib.ListN.{length};
 ghost use Rattle.lists.specs.Over.{fitOver};
-ghost use Rattle.answer.specs.Stated.{stated};
 ghost use Rattle.desk.specs.Text.{textBytes, deskText, sheetText};
-ghost use Rattle.desk_lines.specs.Stored.{Stored};
-ghost use Rattle.desk.specs.Answered.{answerText, Listable};
+ghost use Rattle.desk_words.specs.Stored.{Stored};
 
 // The longest input that is read as a sheet; the legs, sites and cells that there is room for; the plan file of a tree of so many sites; and a
 // length that no text exceeds.
@@ -29,32 +23,6 @@ const CELLS: usize = 8192;
 const PLAN_BYTES: usize = 262;
 
 pub const TEXT_BYTES: usize = 8192;
-
-// The text of an answer, over the tables and the plan buffer that it left.
-fn put_answer(
-    text: &mut [u8],
-    sent: Answer,
-    starts: &[u16],
-    ends: &[u16],
-    weights: &[u32],
-    buffer: &[u8],
-) -> usize
-    requires { ⌜ Listable (stated sent) (now starts) (now ends) (now weights) (now buffer) ⌝ }
-    ensures { λ r. ⌜ Stored (answerText (stated sent) (now (starts .entry)) (now (ends .entry)) (now (weights .entry)) (now (buffer .entry)))
-        0 r (now (text .entry)) (now (text .exit)) ⌝ }
-    ensures { λ r. ⌜ r ≤ textBytes ⌝ }
-{
-    match sent {
-        Answer::Plan { root, total, arcs } => {
-            let next = put_first(text, root as u64, total, arcs as u64);
-            put_arcs(text, next, buffer, arcs, starts, ends, weights)
-        }
-        Answer::Refused(refusal) => {
-            let code = code_of(refusal);
-            put_refusal(text, code.number as u64, code.place as u64)
-        }
-    }
-}
 
 // The text of a sheet.
 fn put_sheet(text: &mut [u8], sheet: &[u8]) -> usize

@@ -1,13 +1,8 @@
--- Decimal numbers of one digit and of several, and a line of each kind, by computation.
+-- A line of each kind, by computation.
 -- Assumes nothing.
 use mathlib.Core.Path.{_≡_, refl}
-use Rattle.desk_lines.specs.Lines.{ascii, decimal, refusalLine, firstLine, arcLine}
-
-pub decimals-settled :
-    (decimal 0 ≡ ascii "0") × (decimal 9 ≡ ascii "9") × (decimal 10 ≡ ascii "10") × (decimal 1009 ≡ ascii "1009")
-    × (decimal 18446744073709551615 ≡ ascii "18446744073709551615")
-unfolding decimal
-decimals-settled = (refl, refl, refl, refl, refl)
+use Rattle.desk_words.specs.Words.{ascii, decimal}
+use Rattle.desk_lines.specs.Lines.{refusalLine, firstLine, arcLine}
 
 -- document 01's F, and the first two lines of its A
 pub lines-settled :

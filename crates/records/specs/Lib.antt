@@ -2,5 +2,5 @@
 pub mod Records
 pub mod Arcs
 pub mod Landings
--- laws of landings
+-- laws of several records
 pub mod laws

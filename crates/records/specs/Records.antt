@@ -62,6 +62,10 @@ size x = length (recordBytes x)
 abbrev pub recordsBytes : List Record → List ℕ
 recordsBytes records = joined recordBytes records
 
+-- and how many they are
+abbrev pub sizes : List Record → ℕ
+sizes records = length (recordsBytes records)
+
 -- ---- a record passes its own tests
 
 -- the sites of a link are on the sheet and differ, and its price is in range

@@ -5,31 +5,23 @@ use Prim.Native.Nat.{ℕ, zero, suc, _+_}
 use mathlib.Core.Bool.{cond, not}
 use mathlib.Core.List.{List, [], _∷_, _++_}
 use lib.ListN.{length, drop}
-use lib.Dec.{ltb, leb, eqb}
-use Rattle.limits.specs.Limits.{minNodes, maxNodes, minTerminals, maxTerminals, maxArcs, minWeight, maxWeight}
-use Rattle.limits.specs.Marks.{markHD, markLK, markBK, markST, markED}
+use lib.Dec.{ltb, eqb}
+use Rattle.limits.specs.Limits.{minNodes, maxNodes, minTerminals, maxTerminals}
+use Rattle.limits.specs.Marks.{markHD}
 use Rattle.answer.specs.declared.SheetFault.{SheetFault}
-use Rattle.answer.specs.declared.SheetFault.the-variants.{ShortSheet, StrangeMark, BadHead, NoSuchSite, NoSuchStation, Loop, BadPrice, TooManyLegs, AfterTheEnd, Unheard}
-use Rattle.subset.specs.Sets.{full, union}
+use Rattle.answer.specs.declared.SheetFault.the-variants.{ShortSheet, StrangeMark, BadHead}
 use Rattle.number_fields.specs.Fields.{number16}
-use Rattle.records.specs.Records.{headFields, linkFields, landingFields, recordsBytes, headSize, size}
-use Rattle.records.specs.Arcs.{arcsOf, arcs}
-use Rattle.records.specs.Landings.{heardBy, heard}
+use Rattle.records.specs.Records.{headFields, sizes, headSize, size}
+use Rattle.records.specs.Arcs.{arcs}
+use Rattle.records.specs.Landings.{heard}
+use Rattle.reading.specs.Steps.{foundIn}
 use Rattle.records.specs.declared.fields.HeadFields.{HeadFields}
 use Rattle.records.specs.declared.fields.HeadFields.the-variants.{Short as NoHead, Fields as Head}
-use Rattle.records.specs.declared.fields.LinkFields.{LinkFields}
-use Rattle.records.specs.declared.fields.LinkFields.the-variants.{Short as NoLink, Fields as Link}
-use Rattle.records.specs.declared.fields.LandingFields.{LandingFields}
-use Rattle.records.specs.declared.fields.LandingFields.the-variants.{Short as NoLanding, Fields as LandingAt}
 use Rattle.records.specs.declared.record.Record.{Record}
-use Rattle.records.specs.declared.record.Record.the-variants.{OneWay, BothWays, Landing}
-use Rattle.sheet.specs.declared.reading.Reading.{Reading}
-use Rattle.sheet.specs.declared.reading.Opening.{Opening}
-use Rattle.sheet.specs.declared.reading.Opening.the-variants.{Head as Opened, Fault as NotOpened}
-use Rattle.sheet.specs.declared.reading.Found.{Found}
-use Rattle.sheet.specs.declared.reading.Found.the-variants.{Item, End, Fault}
-use Rattle.sheet.specs.declared.reading.Step.{Step}
-use Rattle.sheet.specs.declared.reading.Step.the-variants.{Next, End as Ended, Fault as Stopped}
+use Rattle.record_tests.specs.declared.Found.the-variants.{Item, End, Fault}
+use Rattle.reading.specs.declared.Reading.{Reading}
+use Rattle.sheet.specs.declared.opening.Opening.{Opening}
+use Rattle.sheet.specs.declared.opening.Opening.the-variants.{Head as Opened, Fault as NotOpened}
 
 -- a good sheet with its sites, stations and records, or the first refusal
 pub data Verdict : Type 0 where
@@ -38,25 +30,10 @@ pub data Verdict : Type 0 where
 
 -- ---- the reading state
 
--- how many bytes a list of records takes
-abbrev pub sizes : List Record → ℕ
-sizes records = length (recordsBytes records)
-
 -- the state after the head and some records
 abbrev pub stateAfter : ℕ → ℕ → List Record → Reading
 stateAfter n k records =
     record { offset = headSize + sizes records; n = n; k = k; arcs = length (arcs records); heard = record { 0 = heard records } }
-
--- the state after one record more
-abbrev pub after : Reading → Record → Reading
-after r x =
-    record {
-      offset = r .offset + size x;
-      n = r .n;
-      k = r .k;
-      arcs = r .arcs + length (arcsOf x);
-      heard = record { 0 = union (r .heard .0) (heardBy x) };
-    }
 
 -- ---- the head: mark, length, 3
 
@@ -77,63 +54,6 @@ openingOf sheet =
     cond (ltb (length sheet) 2) (NotOpened (ShortSheet 0))
     (cond (not (eqb (number16 sheet 0) markHD)) (NotOpened (StrangeMark 0))
     (headFound (headFields (drop 2 sheet))))
-
--- ---- one record: mark, length, then its own tests
-
--- links: from (4), to (4), 6, 7, and 8 where the legs of the record would pass the most
-abbrev pub linkTests : Reading → ℕ → ℕ → ℕ → Record → Found
-linkTests r start end weight x =
-    cond (leb (r .n) start) (Fault (NoSuchSite (r .offset)))
-    (cond (leb (r .n) end) (Fault (NoSuchSite (r .offset)))
-    (cond (eqb start end) (Fault (Loop (r .offset)))
-    (cond (ltb weight minWeight) (Fault (BadPrice (r .offset)))
-    (cond (ltb maxWeight weight) (Fault (BadPrice (r .offset)))
-    (cond (ltb maxArcs (r .arcs + length (arcsOf x))) (Fault (TooManyLegs (r .offset)))
-    (Item x))))))
-
--- `LK`
-abbrev pub oneWayFound : Reading → LinkFields → Found
-oneWayFound r NoLink = Fault (ShortSheet (r .offset))
-oneWayFound r (Link start end weight) = linkTests r start end weight (OneWay start end weight)
-
--- `BK`
-abbrev pub bothWaysFound : Reading → LinkFields → Found
-bothWaysFound r NoLink = Fault (ShortSheet (r .offset))
-bothWaysFound r (Link start end weight) = linkTests r start end weight (BothWays start end weight)
-
--- `ST`: 5, 4
-abbrev pub landingFound : Reading → LandingFields → Found
-landingFound r NoLanding = Fault (ShortSheet (r .offset))
-landingFound r (LandingAt terminal node) =
-    cond (leb (r .k) terminal) (Fault (NoSuchStation (r .offset)))
-    (cond (leb (r .n) node) (Fault (NoSuchSite (r .offset)))
-    (Item (Landing terminal node)))
-
--- `ED`: 9, at the first byte after it, and 10; `left` is the number of bytes after the mark
-abbrev pub endFound : Reading → ℕ → Found
-endFound r left =
-    cond (ltb 0 left) (Fault (AfterTheEnd (r .offset + 2)))
-    (cond (eqb (r .heard .0) (full (r .k))) End
-    (Fault (Unheard (r .offset))))
-
--- what stands at the start of the bytes that are left; the fields after the mark are a stretch of their own
-abbrev pub foundIn : Reading → List ℕ → Found
-foundIn r bytes =
-    cond (ltb (length bytes) 2) (Fault (ShortSheet (r .offset)))
-    (cond (eqb (number16 bytes 0) markLK) (oneWayFound r (linkFields (drop 2 bytes)))
-    (cond (eqb (number16 bytes 0) markBK) (bothWaysFound r (linkFields (drop 2 bytes)))
-    (cond (eqb (number16 bytes 0) markST) (landingFound r (landingFields (drop 2 bytes)))
-    (cond (eqb (number16 bytes 0) markED) (endFound r (length (drop 2 bytes)))
-    (Fault (StrangeMark (r .offset)))))))
-
--- one record further
-abbrev pub stepAfter : Reading → Found → Step
-stepAfter r (Item x) = Next (after r x)
-stepAfter r End = Ended
-stepAfter r (Fault f) = Stopped f
-
-abbrev pub stepOf : Reading → List ℕ → Step
-stepOf r sheet = stepAfter r (foundIn r (drop (r .offset) sheet))
 
 -- ---- record after record
 

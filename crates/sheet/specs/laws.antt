@@ -2,9 +2,8 @@
 pub mod Good
 -- laws of records and of the reading
 pub mod RecordLaws
-pub mod Passed
+pub mod Opened
 pub mod Reads
 -- what the code keeps true while it reads, and what it returns
-pub mod Room
 pub mod Underway
 pub mod Judged

@@ -1,8 +1,9 @@
 // The verdict on a whole sheet. No table is lent.
-use crate::reading::Opening;
-use crate::reading::Reading;
-use crate::reading::Step;
+use crate::opening::Opening;
+use crate::opening::begin;
 use answer::SheetFault;
+use reading::Reading;
+use reading::Step;
 ghost use mathlib.Core.Path.{_≡_};
 ghost use Rattle.sheet.specs.laws.Judged.{judgedOf};
 ghost use Rattle.sheet.specs.laws.Underway.{Underway};
@@ -44,7 +45,7 @@ fn read_on(sheet: &[u8], first: Reading) -> Judged
 pub fn judge(sheet: &[u8]) -> Judged
     ensures { λ r. ⌜ r ≡ judgedOf (verdict (now (sheet .entry))) ⌝ }
 {
-    let opening = Reading::begin(sheet);
+    let opening = begin(sheet);
     match opening {
         Opening::Head(first) => read_on(sheet, first),
         Opening::Fault(fault) => Judged::Fault(fault),

@@ -1,3 +1,3 @@
-// The sheet: the reading state that goes through its records, and the verdict on a byte string.
+// The verdict on a byte string: the head, and then record after record to the end or the first refusal.
 pub mod judge;
-pub mod reading;
+mod opening;

@@ -9,12 +9,11 @@ use Rattle.limits.specs.Limits.{maxTerminals, maxArcs}
 use Rattle.lists.specs.Every.{Every, every-right}
 use Rattle.lists.specs.Rest.{take-rest}
 use Rattle.lent_tables.specs.SheetTables.{SheetTables, withLandings, Long, SameLengths, long-same, long-fewer, long-arcs}
-use Rattle.records.specs.Records.{recordBytes, recordsBytes, endBytes, headSize, size, RecordOk}
+use Rattle.records.specs.Records.{recordBytes, recordsBytes, endBytes, sizes, headSize, size, RecordOk}
 use Rattle.records.specs.Arcs.{arcsOf, arcs}
-use Rattle.sheet.specs.Verdict.{Verdict, sizes, verdict}
+use Rattle.sheet.specs.Verdict.{Verdict, verdict}
 use Rattle.sheet.specs.laws.Good.{IsSheet, sheet-is-good}
-use Rattle.sheet.specs.laws.Passed.{size-low}
-use Rattle.sheet.specs.laws.Reads.{arcs-append, sizes-append, count-more}
+use Rattle.records.specs.laws.Appended.{size-low, arcs-append, sizes-append, count-more}
 use Rattle.loader.specs.laws.FirstRecord.{WholeRecord, firstRecord, whole-record, first-record, sheet-length, bytes-left}
 use Rattle.records.specs.declared.record.Record.{Record}
 use Rattle.records.specs.declared.record.Record.the-variants.{OneWay, BothWays, Landing}

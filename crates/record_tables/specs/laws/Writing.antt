@@ -15,7 +15,7 @@ use Rattle.subset.specs.Sets.{empty, single, union}
 use Rattle.records.specs.Arcs.{Arc, arcsOf, arcs}
 use Rattle.records.specs.Landings.{terminalsOf, terminalsAt, terminalSets}
 use Rattle.records.specs.Records.{RecordOk}
-use Rattle.sheet.specs.laws.Reads.{arcs-more, count-more, terminals-more}
+use Rattle.records.specs.laws.Appended.{arcs-more, count-more, terminals-more}
 use Rattle.lent_tables.specs.SheetTables.{SheetTables, withArcTables, withLandings, Long, SameLengths, long-fewer}
 use Rattle.record_tables.specs.Loaded.{filled, loaded}
 use Rattle.records.specs.declared.record.Record.{Record}

@@ -15,13 +15,16 @@ use Rattle.sheet.specs.laws.RecordLaws.{read-bytes, end-bytes, head-byte
 use Rattle.records.specs.Arcs.{arcsOf, arcs}
 use Rattle.records.specs.Landings.{Heard, heard}
 use Rattle.records.specs.laws.Heard.{all-heard, heard-all}
-use Rattle.sheet.specs.Verdict.{good, stateAfter, openingOf, foundIn, reading, afterHead, verdict}
-use Rattle.sheet.specs.laws.Passed.{found-item, found-read, found-end, opening-opened}
-use Rattle.sheet.specs.laws.Reads.{arcs-append, reading-item, reading-end, reading-extends, good-reading}
+use Rattle.records.specs.laws.Appended.{arcs-append}
+use Rattle.reading.specs.Steps.{foundIn}
+use Rattle.reading.specs.laws.Found.{found-item, found-read, found-end}
+use Rattle.sheet.specs.Verdict.{good, stateAfter, openingOf, reading, afterHead, verdict}
+use Rattle.sheet.specs.laws.Opened.{opening-opened}
+use Rattle.sheet.specs.laws.Reads.{reading-item, reading-end, reading-extends, good-reading}
 use Rattle.records.specs.declared.record.Record.{Record}
-use Rattle.sheet.specs.declared.reading.Opening.{Opening}
-use Rattle.sheet.specs.declared.reading.Opening.the-variants.{Head as Opened, Fault as NotOpened}
-use Rattle.sheet.specs.declared.reading.Found.the-variants.{Item, End}
+use Rattle.sheet.specs.declared.opening.Opening.{Opening}
+use Rattle.sheet.specs.declared.opening.Opening.the-variants.{Head as Opened, Fault as NotOpened}
+use Rattle.record_tests.specs.declared.Found.the-variants.{Item, End}
 
 -- the byte string is that sheet
 pub record IsSheet (s : List ℕ) (n k : ℕ) (records : List Record) : Type 0 where
@@ -59,7 +62,7 @@ module _ (n k n' k' : ℕ) (all : List Record) where
       record {
         more = [];
         whole = same ∙ sym (append-nil records);
-        left = end-bytes bytes b (stateAfter n k records) end;
+        left = end-bytes bytes b k (heard records) end;
         each = tt;
         few = λ h. subst (λ (l : List Record). length (arcs l) ≤ maxArcs) (sym same) h;
         heard = ap heard same ∙ end .all-heard;

@@ -6,10 +6,11 @@ use mathlib.Core.List.{List}
 use lib.ListN.{length}
 use Rattle.answer.specs.declared.SheetFault.{SheetFault}
 use Rattle.records.specs.Arcs.{arcs}
-use Rattle.sheet.specs.Verdict.{Verdict, good, bad, stepOf, verdict}
+use Rattle.reading.specs.Steps.{stepOf}
+use Rattle.sheet.specs.Verdict.{Verdict, good, bad, verdict}
 use Rattle.sheet.specs.laws.Underway.{Underway, ended, stopped}
-use Rattle.sheet.specs.declared.reading.Reading.{Reading}
-use Rattle.sheet.specs.declared.reading.Step.the-variants.{End as Ended, Fault as Stopped}
+use Rattle.reading.specs.declared.Reading.{Reading}
+use Rattle.reading.specs.declared.Step.the-variants.{End as Ended, Fault as Stopped}
 use Rattle.sheet.specs.declared.judge.Judged.{Judged}
 use Rattle.sheet.specs.declared.judge.Judged.the-variants.{Good, Fault}
 

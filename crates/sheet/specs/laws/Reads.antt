@@ -7,36 +7,17 @@ use mathlib.Core.List.{List, [], _∷_, _++_, append-assoc, append-nil}
 use native.Mathlib.Omega.{arith}
 use lib.ListN.{length, drop, length-append, length-drop}
 use Rattle.answer.specs.declared.SheetFault.{SheetFault}
-use Rattle.lists.specs.Joined.{joined-append}
-use Rattle.subset.specs.Sets.{union}
 use Rattle.subset.specs.Unions.{unions-more}
-use Rattle.records.specs.Records.{recordBytes, recordsBytes, headSize, size}
-use Rattle.records.specs.Arcs.{Arc, arcsOf, arcs}
-use Rattle.records.specs.Landings.{terminalsOf, terminalsAt, heardBy}
-use Rattle.sheet.specs.Verdict.{good, bad, sizes, stateAfter, after, foundIn, readFor, reading}
-use Rattle.sheet.specs.laws.Passed.{size-low}
+use Rattle.records.specs.Records.{recordBytes, sizes, headSize, size}
+use Rattle.records.specs.Landings.{heardBy}
+use Rattle.records.specs.laws.Appended.{size-low, sizes-append, count-more}
+use Rattle.reading.specs.Steps.{after, foundIn}
+use Rattle.sheet.specs.Verdict.{good, bad, stateAfter, readFor, reading}
 use Rattle.records.specs.declared.record.Record.{Record}
-use Rattle.sheet.specs.declared.reading.Found.{Found}
-use Rattle.sheet.specs.declared.reading.Found.the-variants.{Item, End, Fault}
-
--- ---- two lists of records, one after the other
-
-pub arcs-append : (a b : List Record) → arcs (a ++ b) ≡ arcs a ++ arcs b
-arcs-append a b = joined-append arcsOf a b
-
-pub sizes-append : (a b : List Record) → sizes (a ++ b) ≡ sizes a + sizes b
-sizes-append a b = ap length (joined-append recordBytes a b) ∙ length-append (recordsBytes a) (recordsBytes b)
+use Rattle.record_tests.specs.declared.Found.{Found}
+use Rattle.record_tests.specs.declared.Found.the-variants.{Item, End, Fault}
 
 -- ---- one record more
-
-pub arcs-more : (records : List Record) (x : Record) → arcs (records ++ (x ∷ [])) ≡ arcs records ++ arcsOf x
-arcs-more records x = arcs-append records (x ∷ []) ∙ ap (λ (l : List Arc). arcs records ++ l) (append-nil (arcsOf x))
-
-pub count-more : (records : List Record) (x : Record) → length (arcs (records ++ (x ∷ []))) ≡ length (arcs records) + length (arcsOf x)
-count-more records x = ap length (arcs-more records x) ∙ length-append (arcs records) (arcsOf x)
-
-pub terminals-more : (records : List Record) (x : Record) (v : ℕ) → terminalsAt (records ++ (x ∷ [])) v ≡ union (terminalsAt records v) (terminalsOf x v)
-terminals-more records x v = unions-more (λ y. terminalsOf y v) records x
 
 -- the state after one record more
 pub state-more : (n k : ℕ) (records : List Record) (x : Record) → stateAfter n k (records ++ (x ∷ [])) ≡ after (stateAfter n k records) x

@@ -17,16 +17,19 @@ use Rattle.number_fields.specs.Fields.{Bytes, bytes16, bytes32}
 use Rattle.number_fields.specs.FieldLaws.{number16-bytes, number32-bytes, field8, field16, field32}
 use Rattle.records.specs.Records.{LinkOk, RecordOk, linkFields, headBytes, recordBytes, endBytes, headSize, size}
 use Rattle.records.specs.Arcs.{arcsOf}
-use Rattle.sheet.specs.Verdict.{stateAfter, headFound, openingOf, linkTests, oneWayFound, bothWaysFound, landingFound, foundIn}
-use Rattle.sheet.specs.laws.Passed.{LinkRead, ReadFrom, EndOk, OpenedOk}
+use Rattle.record_tests.specs.Tests.{linkTests, oneWayFound, bothWaysFound, landingFound}
+use Rattle.record_tests.specs.laws.Passed.{LinkRead, ReadFrom, EndOk}
+use Rattle.reading.specs.Steps.{foundIn}
+use Rattle.sheet.specs.Verdict.{stateAfter, headFound, openingOf}
+use Rattle.sheet.specs.laws.Opened.{OpenedOk}
 use Rattle.records.specs.declared.fields.HeadFields.the-variants.{Fields as Head}
 use Rattle.records.specs.declared.fields.LinkFields.the-variants.{Fields as Link}
 use Rattle.records.specs.declared.fields.LandingFields.the-variants.{Fields as LandingAt}
 use Rattle.records.specs.declared.record.Record.{Record}
 use Rattle.records.specs.declared.record.Record.the-variants.{OneWay, BothWays, Landing}
-use Rattle.sheet.specs.declared.reading.Reading.{Reading}
-use Rattle.sheet.specs.declared.reading.Opening.the-variants.{Head as Opened}
-use Rattle.sheet.specs.declared.reading.Found.the-variants.{Item, End}
+use Rattle.reading.specs.declared.Reading.{Reading}
+use Rattle.sheet.specs.declared.opening.Opening.the-variants.{Head as Opened}
+use Rattle.record_tests.specs.declared.Found.the-variants.{Item, End}
 
 -- ---- what was read, in bytes
 
@@ -64,8 +67,8 @@ module _ (s : List ℕ) (bytes : Bytes s) where
       ∙ ap (λ (l : List ℕ). bytes16 node ++ l) (drop-drop 3 2 s)))
 
   -- and so do the bytes of the end and of the head
-  pub end-bytes : (r : Reading) → EndOk r s → s ≡ endBytes
-  end-bytes r end =
+  pub end-bytes : (k heard : ℕ) → EndOk k heard s → s ≡ endBytes
+  end-bytes k heard end =
       field16 s bytes 0 markED (omega arith) (end .mark-is) ∙ ap (λ (l : List ℕ). bytes16 markED ++ l) (drop-of-length-le s {i = 2} (omega arith))
 
   pub head-bytes : (r : Reading) → OpenedOk s r → s ≡ headBytes (r .n) (r .k) ++ drop headSize s
@@ -94,16 +97,16 @@ link-read start end weight rest a b c =
     (number32-bytes weight rest c i)
 
 -- a link that passes its tests is found
-link-passes : (r : Reading) (start end weight : ℕ) (x : Record) → LinkOk (r .n) start end weight → r .arcs + length (arcsOf x) ≤ maxArcs
-    → linkTests r start end weight x ≡ Item x
-link-passes r start end weight x ok few =
+link-passes : (at n legs start end weight : ℕ) (x : Record) → LinkOk n start end weight → legs + length (arcsOf x) ≤ maxArcs
+    → linkTests at n legs start end weight x ≡ Item x
+link-passes at n legs start end weight x ok few =
     simp (
-      lt-leb (r .n) start (ok .start-below),
-      lt-leb (r .n) end (ok .end-below),
+      lt-leb n start (ok .start-below),
+      lt-leb n end (ok .end-below),
       ne-eqb start end (ok .apart),
       le-ltb weight minWeight (ok .low),
       le-ltb maxWeight weight (ok .high),
-      le-ltb maxArcs (r .arcs + length (arcsOf x)) few,
+      le-ltb maxArcs (legs + length (arcsOf x)) few,
     )
 
 -- a record that passes its tests is read from its bytes, whatever follows
@@ -111,15 +114,15 @@ pub found-bytes : (r : Reading) (x : Record) (rest : List ℕ) → RecordOk (r .
     → foundIn r (recordBytes x ++ rest) ≡ Item x
 found-bytes r (OneWay start end weight) rest ok small few =
     passed (length (recordBytes (OneWay start end weight) ++ rest)) 2 _ _ (omega arith)
-    ∙ ap (oneWayFound r) (link-read start end weight rest (omega arith) (omega arith) (omega arith))
-    ∙ link-passes r start end weight (OneWay start end weight) ok few
+    ∙ ap (oneWayFound (r .offset) (r .n) (r .arcs)) (link-read start end weight rest (omega arith) (omega arith) (omega arith))
+    ∙ link-passes (r .offset) (r .n) (r .arcs) start end weight (OneWay start end weight) ok few
 found-bytes r (BothWays start end weight) rest ok small few =
     passed (length (recordBytes (BothWays start end weight) ++ rest)) 2 _ _ (omega arith)
-    ∙ ap (bothWaysFound r) (link-read start end weight rest (omega arith) (omega arith) (omega arith))
-    ∙ link-passes r start end weight (BothWays start end weight) ok few
+    ∙ ap (bothWaysFound (r .offset) (r .n) (r .arcs)) (link-read start end weight rest (omega arith) (omega arith) (omega arith))
+    ∙ link-passes (r .offset) (r .n) (r .arcs) start end weight (BothWays start end weight) ok few
 found-bytes r (Landing terminal node) rest ok small few =
     passed (length (recordBytes (Landing terminal node) ++ rest)) 2 _ _ (omega arith)
-    ∙ ap (landingFound r)
+    ∙ ap (landingFound (r .offset) (r .n) (r .k))
     (passed (length ((terminal ∷ []) ++ bytes16 node ++ rest)) 3 _ _ (omega arith)
     ∙ ap (LandingAt terminal) (number16-bytes node rest (omega arith)))
     ∙ simp (lt-leb (r .k) terminal (ok .0), lt-leb (r .n) node (ok .1))

@@ -8,18 +8,21 @@ use lib.ListN.{length, drop, length-drop}
 use lib.Seq.{drop-drop}
 use Rattle.limits.specs.Limits.{maxTerminals, maxArcs}
 use Rattle.answer.specs.declared.SheetFault.{SheetFault}
-use Rattle.records.specs.Records.{headSize, size}
+use Rattle.records.specs.Records.{sizes, headSize, size}
 use Rattle.records.specs.Arcs.{arcs}
-use Rattle.sheet.specs.Verdict.{good, bad, sizes, stateAfter, after, openingOf, foundIn, stepAfter, stepOf, reading, afterHead, verdict}
-use Rattle.sheet.specs.laws.Passed.{found-item, size-low, opening-opened}
+use Rattle.records.specs.laws.Appended.{size-low}
+use Rattle.reading.specs.Steps.{after, foundIn, stepAfter, stepOf}
+use Rattle.reading.specs.laws.Found.{found-item}
+use Rattle.sheet.specs.Verdict.{good, bad, stateAfter, openingOf, reading, afterHead, verdict}
+use Rattle.sheet.specs.laws.Opened.{opening-opened}
 use Rattle.sheet.specs.laws.Reads.{state-more, reading-item, reading-end, reading-fault}
 use Rattle.records.specs.declared.record.Record.{Record}
-use Rattle.sheet.specs.declared.reading.Reading.{Reading}
-use Rattle.sheet.specs.declared.reading.Opening.the-variants.{Head as Opened, Fault as NotOpened}
-use Rattle.sheet.specs.declared.reading.Found.{Found}
-use Rattle.sheet.specs.declared.reading.Found.the-variants.{Item, End, Fault}
-use Rattle.sheet.specs.declared.reading.Step.{Step}
-use Rattle.sheet.specs.declared.reading.Step.the-variants.{Next, End as Ended, Fault as Stopped}
+use Rattle.reading.specs.declared.Reading.{Reading}
+use Rattle.sheet.specs.declared.opening.Opening.the-variants.{Head as Opened, Fault as NotOpened}
+use Rattle.record_tests.specs.declared.Found.{Found}
+use Rattle.record_tests.specs.declared.Found.the-variants.{Item, End, Fault}
+use Rattle.reading.specs.declared.Step.{Step}
+use Rattle.reading.specs.declared.Step.the-variants.{Next, End as Ended, Fault as Stopped}
 
 pub record Underway (s : List ℕ) (r : Reading) : Type 0 where
   pub n : ℕ

@@ -3,7 +3,7 @@
 use native.Mathlib.Omega.{arith}
 use denote.Ref.{now}
 use Rattle.number_fields.specs.FieldLaws.{known-bytes}
-use Rattle.desk_lines.specs.Stored.{stored-same}
+use Rattle.desk_words.specs.laws.Storing.{stored-same}
 use Rattle.desk.specs.Answered.{zeros, zeros-desk, answered}
 use borrow.Author.Needs.{needs}
 use Rattle.desk.proofs.text.put_sheet.Statement.{statement}
@@ -46,13 +46,20 @@ slice-aggregate-put-answer-4 : tie.Need-slice-aggregate-put-answer-4
 slice-aggregate-put-answer-4 c = search needs
 
 put-answer-requires : tie.Need-put-answer-requires
-put-answer-requires c κs = (answered _ (known-bytes (now (c .before .before .before .before .before .before .before .before .before .before .before .before .before .before .before .before .before .before .before .before .before .before .args .sheet)) (λ i. omega (arith, c .before .before .before .before .before .before .before .before .before .before .before .before .before .before .before .before .before .before .before .before .shared-slice-known .given i))) zeros zeros-desk _ _ (c .before .before .before .before .before .before .before .before .before .before .before .before .plan-sheet .ensures .0)) .listable
+put-answer-requires c κs =
+    let known = c .before .before .before .before .before .before .before .before .before .before .before .before .before .before .before .before .before .before .before .before in
+    answered _ (known-bytes (now (known .before .before .args .sheet)) (λ i. omega (arith, known .shared-slice-known .given i)))
+    zeros zeros-desk _ _ (c .before .before .before .before .before .before .before .before .before .before .before .before .plan-sheet .ensures .0) .listable
 
 same-length : tie.Need-same-length
 same-length c = search needs
 
 returns : tie.Need-returns
-returns c = (stored-same ((answered _ (known-bytes (now (c .before .before .before .before .before .before .before .before .before .before .before .before .before .before .before .before .before .before .before .before .before .before .before .before .before .args .sheet)) (λ i. omega (arith, c .before .before .before .before .before .before .before .before .before .before .before .before .before .before .before .before .before .before .before .before .before .before .before .shared-slice-known .given i))) zeros zeros-desk _ _ (c .before .before .before .before .before .before .before .before .before .before .before .before .before .before .before .plan-sheet .ensures .0)) .same) (c .before .before .put-answer .ensures .0), c .before .before .put-answer .ensures .1)
+returns c =
+    let known = c .before .before .before .before .before .before .before .before .before .before .before .before .before .before .before .before .before .before .before .before .before .before .before in
+    let sent = answered _ (known-bytes (now (known .before .before .args .sheet)) (λ i. omega (arith, known .shared-slice-known .given i)))
+    zeros zeros-desk _ _ (c .before .before .before .before .before .before .before .before .before .before .before .before .before .before .before .plan-sheet .ensures .0) in
+    (stored-same (sent .same) (c .before .before .put-answer .ensures .0), omega (arith, c .before .before .put-answer .ensures .1, sent .few))
 
 pub put-sheet-spec : {M : Type 1} → statement M
 put-sheet-spec =

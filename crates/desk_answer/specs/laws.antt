@@ -1,0 +1,2 @@
+-- the lines of one leg more, and the parts of an answer's text
+pub mod Listed

@@ -1,0 +1,3 @@
+-- the laws of decimal numbers, and of what is stored in a text
+pub mod Decimal
+pub mod Storing

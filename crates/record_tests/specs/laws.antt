@@ -1,0 +1,2 @@
+-- which tests a record passes that is found, and which bytes it was read from
+pub mod Passed
