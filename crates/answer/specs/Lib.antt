@@ -1,2 +1,4 @@
+-- what each answer states
 pub mod Stated
-pub mod OneToOne
+-- laws
+pub mod laws

@@ -14,7 +14,7 @@ ghost use mathlib.Core.Option.{some};
 ghost use Rattle.answer.specs.Stated.{stated};
 ghost use Rattle.lent_tables.specs.SheetTables.{sheetTables};
 ghost use Rattle.graph.specs.HeldGraph.{graphIn};
-ghost use Rattle.planfile.specs.FormatLaws.{Fits};
+ghost use Rattle.planfile.specs.laws.FormatLaws.{Fits};
 ghost use Rattle.best_plan.specs.Plan.{planWith, planOf};
 ghost use Rattle.best_plan.specs.laws.Best.{SentBack, FinishedSheet, FiniteRoot};
 

@@ -20,9 +20,9 @@ use Rattle.sheet.specs.laws.Good.{IsSheet, good-is-sheet}
 use Rattle.sheet.specs.Verdict.{good, verdict}
 use Rattle.records.specs.declared.record.Record.{Record}
 use Rattle.network.specs.Network.{graphOf}
-use Rattle.network.specs.OfSheets.{sheet-room}
+use Rattle.network.specs.laws.OfSheets.{sheet-room}
 use Rattle.cost_table.specs.Cells.{cellIn, costTable}
-use Rattle.cost_table.specs.Rows.{length-table, table-over}
+use Rattle.cost_table.specs.laws.Rows.{length-table, table-over}
 use Rattle.mission.specs.Runs.{EngineTables, GoodWith}
 use Rattle.mission.specs.PointOne.{AsAfterPlan, EngineAnswers}
 use Rattle.engine.specs.Engine.{planningOf}

@@ -25,14 +25,14 @@ use Rattle.records.specs.declared.record.Record.{Record}
 use Rattle.records.specs.declared.record.Record.the-variants.{BothWays, Landing}
 use Rattle.network.specs.Network.{graphOf}
 use Rattle.planfile.specs.Format.{fileBytes, fileSize, rootIn, totalIn, countIn}
-use Rattle.planfile.specs.FormatLaws.{encoding-fits, length-file}
-use Rattle.planfile.specs.Encoded.{encoding-fields}
+use Rattle.planfile.specs.laws.FormatLaws.{encoding-fits, length-file}
+use Rattle.planfile.specs.laws.Encoded.{encoding-fields}
 use Rattle.mission.specs.Runs.{EngineTables, EngineLong, Engine, ReaderTables, readerTables, ReaderLong, Reader}
 use Rattle.mission.specs.Rule.{ByRule}
-use Rattle.mission.specs.OnePlan.{one-plan}
+use Rattle.mission.specs.laws.OnePlan.{one-plan}
 use Rattle.mission.specs.PointTwo.{EncodesPlan, EngineSound, EnginePointTwo, ReaderPointTwo}
 use Rattle.mission.specs.PointThree.{SomeReachesAll, BufferLong, PointThree}
-use Rattle.mission.specs.PointLaws.{refused-not-plan, same-sheet}
+use Rattle.mission.specs.laws.PointLaws.{refused-not-plan, same-sheet}
 use Rattle.best_plan.specs.Plan.{Plan, planOf}
 use Rattle.best_plan.specs.laws.Found.{found-reaches, sheet-plannable, sheet-found}
 use Rattle.cases.specs.Worked.{lent}

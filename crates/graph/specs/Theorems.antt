@@ -18,8 +18,8 @@ use Rattle.lists.specs.Find.{first}
 use Rattle.lists.specs.Listed.{listed, every-listed, Distinct}
 use Rattle.lists.specs.Sums.{same-count, sumTo}
 use Rattle.subset.specs.Sets.{full, single, Part}
-use Rattle.subset.specs.Parts.{part-le, full-every, full-ne}
-use Rattle.subset.specs.Sequences.{earlier-part}
+use Rattle.subset.specs.laws.Parts.{part-le, full-every, full-ne}
+use Rattle.subset.specs.laws.Sequences.{earlier-part}
 use Rattle.graph.specs.Graph.{Graph, Sound, Landing}
 use Rattle.graph.specs.Paths.{DirectedPath, Reaches, ReachesAll, reachedIn, isReached, reachedNodes, Touched, OnePath}
 use Rattle.graph.specs.Subtrees.{Subtree, held, Covers, CoversAll, total, isTree, isSubtree, isCovering}

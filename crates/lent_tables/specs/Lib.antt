@@ -1,5 +1,5 @@
 -- what a reader must believe: the tables that hold a sheet, and the lengths that are needed
 pub mod SheetTables
 pub mod Lengths
--- the tests of the lengths
-pub mod LengthLaws
+-- laws
+pub mod laws

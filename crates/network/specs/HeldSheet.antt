@@ -13,11 +13,11 @@ use Rattle.graph.specs.HeldGraph.{graphIn}
 use Rattle.graph.specs.LeastTotals.{Room}
 use Rattle.sheet.specs.laws.Good.{IsSheet, good-is-sheet}
 use Rattle.lent_tables.specs.Lengths.{AllLong}
-use Rattle.opener.specs.Opened.{OpenedSheet, still-long}
+use Rattle.opener.specs.laws.Opened.{OpenedSheet, still-long}
 use Rattle.lent_tables.specs.declared.FurtherLengths.{FurtherLengths}
 use Rattle.network.specs.Network.{graphOf}
-use Rattle.network.specs.Loaded.{loaded-graph}
-use Rattle.network.specs.OfSheets.{sheet-sound, sheet-weights, sheet-room}
+use Rattle.network.specs.laws.Loaded.{loaded-graph}
+use Rattle.network.specs.laws.OfSheets.{sheet-sound, sheet-weights, sheet-room}
 
 -- the tables hold a graph of n nodes, k terminals and m arcs within the limits of a sheet, and all needed tables are long enough
 pub record HeldSheet (n k m : ℕ) (t : SheetTables) (f : FurtherLengths) : Type 0 where

@@ -1,4 +1,4 @@
 -- what a reader must believe
 pub mod Fields
--- laws of numbers and their bytes
-pub mod FieldLaws
+-- laws
+pub mod laws

@@ -1,7 +1,4 @@
 -- what a reader must believe: what the opening of a sheet comes to
 pub mod Opening
--- the cases of an opening, and what an opened sheet has
-pub mod Cases
-pub mod Opened
--- what the code returns in each case
-pub mod FromJudging
+-- laws
+pub mod laws

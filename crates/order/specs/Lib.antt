@@ -1,3 +1,4 @@
+-- what a reader must believe
 pub mod Order
-pub mod BySize
-pub mod Rule
+-- laws
+pub mod laws

@@ -1,8 +1,5 @@
 -- what a reader must believe
 pub mod Format
 pub mod Writing
--- the law beside the encoding
-pub mod Encoded
--- laws of the format and of the writing
-pub mod FormatLaws
-pub mod WritingLaws
+-- laws
+pub mod laws

@@ -1,8 +1,6 @@
+-- what a reader must believe: sets, sets put together, and the set given by a test
 pub mod Sets
-pub mod Terminals
-pub mod Parts
 pub mod Unions
-pub mod Sizes
-pub mod Falling
 pub mod SetOf
-pub mod Sequences
+-- laws
+pub mod laws

@@ -9,7 +9,7 @@ use lib.Dec.{T, eqb, eqb·zero-suc, eqb·suc-zero, eqb·suc-suc}
 use lib.Bits.{bitAnd, and-step}
 use Rattle.lists.specs.Count.{bit}
 use Rattle.subset.specs.Sets.{has, single}
-use Rattle.subset.specs.Terminals.{has-zero, has-suc}
+use Rattle.subset.specs.laws.Terminals.{has-zero, has-suc}
 
 -- the set of the stations below k that pass the test f
 abbrev pub setOf : ℕ → (ℕ → Bool) → ℕ

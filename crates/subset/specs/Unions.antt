@@ -13,8 +13,8 @@ use Rattle.lists.specs.Every.{every-mem}
 use Rattle.lists.specs.Members.{listed-member}
 use Rattle.lists.specs.Numbers.{numbers, numbers-more, every-number, value-in}
 use Rattle.subset.specs.Sets.{empty, has, union}
-use Rattle.subset.specs.Terminals.{has-empty}
-use Rattle.subset.specs.Parts.{part-has, part-union-left, part-union-right, union-has, union-assoc}
+use Rattle.subset.specs.laws.Terminals.{has-empty}
+use Rattle.subset.specs.laws.Parts.{part-has, part-union-left, part-union-right, union-has, union-assoc}
 
 module _ {A : Type 0} (set : A → ℕ) where
   -- the sets of the entries

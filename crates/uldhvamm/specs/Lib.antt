@@ -3,5 +3,5 @@ pub mod Interface
 -- what a C function returns and leaves of a run, and some calls computed
 pub mod Returned
 pub mod Worked
--- a call, from the run behind it
-pub mod Called
+-- laws
+pub mod laws

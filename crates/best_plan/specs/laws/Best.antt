@@ -19,7 +19,7 @@ use Rattle.lists.specs.Every.{every-imp}
 use Rattle.lists.specs.Over.{over, length-over}
 use Rattle.lists.specs.Tests.{by-test}
 use Rattle.subset.specs.Sets.{full}
-use Rattle.subset.specs.Parts.{full-ne}
+use Rattle.subset.specs.laws.Parts.{full-ne}
 use Rattle.answer.specs.Stated.{Stated, plan, refused, ofTables, ofSearch}
 use Rattle.graph.specs.Graph.{Graph}
 use Rattle.graph.specs.HeldGraph.{graphIn}
@@ -28,12 +28,12 @@ use Rattle.graph.specs.Layout.{rootOf, layout}
 use Rattle.graph.specs.Theorems.{Laid, layout-is-least, root-rule, same-root, same-layout}
 use Rattle.cost_table.specs.Cells.{cellIn, costTable}
 use Rattle.cost_table.specs.Cheapest.{LowestTo}
-use Rattle.cost_table.specs.Rows.{length-table, table-over}
+use Rattle.cost_table.specs.laws.Rows.{length-table, table-over}
 use Rattle.lent_tables.specs.SheetTables.{SheetTables}
 use Rattle.lent_tables.specs.Lengths.{cellsAndMarks}
 use Rattle.network.specs.HeldSheet.{HeldSheet}
 use Rattle.planfile.specs.Format.{fileBytes, fileSize}
-use Rattle.planfile.specs.FormatLaws.{Fits, fits-encoding, length-file}
+use Rattle.planfile.specs.laws.FormatLaws.{Fits, fits-encoding, length-file}
 use Rattle.planfile.specs.Writing.{Writing, writing, writtenOver, writingOf}
 use Rattle.planfile.specs.declared.write.Written.{Written}
 use Rattle.planfile.specs.declared.write.Written.the-variants.{File, ShortBuffer, NoFile}

@@ -16,7 +16,7 @@ use Rattle.lists.specs.Every.{every-imp}
 use Rattle.lists.specs.Find.{all-at, all-of}
 use Rattle.lists.specs.Tests.{by-fact, eq-fact, fact-true, true-fact, false-not-fact, not-both, or-cases}
 use Rattle.subset.specs.Sets.{full}
-use Rattle.subset.specs.Parts.{full-ne}
+use Rattle.subset.specs.laws.Parts.{full-ne}
 use Rattle.graph.specs.Graph.{Graph}
 use Rattle.graph.specs.Paths.{ReachesAll}
 use Rattle.graph.specs.LeastTotals.{leastCell}
@@ -29,9 +29,9 @@ use Rattle.sheet.specs.laws.Good.{IsSheet, good-is-sheet}
 use Rattle.sheet.specs.Verdict.{good, verdict}
 use Rattle.records.specs.declared.record.Record.{Record}
 use Rattle.network.specs.Network.{graphOf}
-use Rattle.network.specs.OfSheets.{sheet-sound, sheet-room}
+use Rattle.network.specs.laws.OfSheets.{sheet-sound, sheet-room}
 use Rattle.planfile.specs.Format.{fileBytes, encoding}
-use Rattle.planfile.specs.FormatLaws.{Fits, fits-encoding}
+use Rattle.planfile.specs.laws.FormatLaws.{Fits, fits-encoding}
 use Rattle.mission.specs.Rule.{ByRule}
 use Rattle.mission.specs.PointTwo.{IsPlan}
 use Rattle.mission.specs.PointThree.{NoneCheaper, SomeReachesAll}

@@ -13,7 +13,7 @@ use Rattle.limits.specs.Limits.{noCost}
 use Rattle.lists.specs.Find.{first, first-says}
 use Rattle.lists.specs.Tests.{true-fact, false-not-fact, not-both}
 use Rattle.subset.specs.Sets.{single, full}
-use Rattle.subset.specs.Parts.{part-le, full-ne}
+use Rattle.subset.specs.laws.Parts.{part-le, full-ne}
 use Rattle.graph.specs.Graph.{Graph, Sound, Landing}
 use Rattle.graph.specs.LeastTotals.{leastTotal, leastCell, Least, IsLeastTotal, IsCostTable, Room}
 use Rattle.graph.specs.Layout.{isDone, fits, splits, layout, rootOf}

@@ -3,7 +3,7 @@
 use borrow.Author.Needs.{needs}
 use mathlib.Core.Path.{sym, ap}
 use Rattle.answer.specs.Stated.{stated}
-use Rattle.c_values.specs.Giving.{gives-plan, gives-same}
+use Rattle.c_values.specs.laws.Giving.{gives-plan, gives-same}
 use Rattle.c_values.proofs.give.Statement.{statement}
 use Rattle.c_values.proofs.give.Tie as tie
 

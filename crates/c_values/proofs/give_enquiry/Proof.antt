@@ -3,7 +3,7 @@
 use borrow.Author.Needs.{needs}
 use mathlib.Core.Path.{refl, sym, ap}
 use Rattle.answer.specs.Stated.{cell, sender, noSender, statedEnquiry}
-use Rattle.c_values.specs.Giving.{gives-value, gives-same}
+use Rattle.c_values.specs.laws.Giving.{gives-value, gives-same}
 use Rattle.c_values.proofs.give_enquiry.Statement.{statement}
 use Rattle.c_values.proofs.give_enquiry.Tie as tie
 

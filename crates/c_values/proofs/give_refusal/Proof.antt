@@ -1,7 +1,7 @@
 -- `c_values::give_refusal` meets its contract.
 -- Assumes nothing.
 use borrow.Author.Needs.{needs}
-use Rattle.c_values.specs.Giving.{gives-refusal}
+use Rattle.c_values.specs.laws.Giving.{gives-refusal}
 use Rattle.c_values.proofs.give_refusal.Statement.{statement}
 use Rattle.c_values.proofs.give_refusal.Tie as tie
 

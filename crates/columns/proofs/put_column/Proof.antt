@@ -5,7 +5,7 @@ use native.Mathlib.Omega.{arith}
 use lib.ListN.{length}
 use borrow.Author.Needs.{needs}
 use Rattle.columns.specs.laws.ColumnPut.{ColumnPut, put-none, put-more, put-all}
-use Rattle.cost_table.specs.Rows.{place-lt}
+use Rattle.cost_table.specs.laws.Rows.{place-lt}
 use Rattle.columns.proofs.put_column.Statement.{statement}
 use Rattle.columns.proofs.put_column.Tie as tie
 

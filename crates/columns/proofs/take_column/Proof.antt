@@ -8,7 +8,7 @@ use denote.Ref.{now}
 use borrow.Author.Needs.{needs}
 use Rattle.lists.specs.Values.{ValuesTo, no-values, next-value, all-values}
 use Rattle.cost_table.specs.Cells.{cellIn}
-use Rattle.cost_table.specs.Rows.{place-lt}
+use Rattle.cost_table.specs.laws.Rows.{place-lt}
 use Rattle.columns.proofs.take_column.Statement.{statement}
 use Rattle.columns.proofs.take_column.Tie as tie
 

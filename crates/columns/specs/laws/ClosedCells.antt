@@ -11,7 +11,7 @@ use lib.ListN.{length}
 use Rattle.lists.specs.Numbers.{numbers, length-values, getD-values}
 use Rattle.lent_tables.specs.SheetTables.{SheetTables}
 use Rattle.cost_table.specs.Cells.{cellIn}
-use Rattle.cost_table.specs.Rows.{place-lt, place-of}
+use Rattle.cost_table.specs.laws.Rows.{place-lt, place-of}
 use Rattle.working_none.specs.laws.WorkingNone.{workingNone}
 use Rattle.working_none.specs.laws.Low.{entry, AllLow}
 use Rattle.order_ranges.specs.laws.Ranges.{Ordered, OneSize, Outside, Inside, shorter, inside-or-out}

@@ -10,7 +10,7 @@ use lib.Dec.{leb}
 use lib.ListN.{length}
 use Rattle.limits.specs.Refusals.{shortTables, noPlan, shortBuffer}
 use Rattle.answer.specs.Stated.{Family, plan, refused, ofSearch, ofTables, statedSheet}
-use Rattle.answer.specs.OneToOne.{refusal-no-plan}
+use Rattle.answer.specs.laws.OneToOne.{refusal-no-plan}
 use Rattle.answer.specs.declared.SheetFault.{SheetFault}
 use Rattle.answer.specs.declared.Refusal.the-variants.{Sheet}
 use Rattle.sheet.specs.Verdict.{good, verdict}
@@ -19,7 +19,7 @@ use Rattle.network.specs.Network.{graphOf}
 use Rattle.planfile.specs.Format.{fileSize}
 use Rattle.mission.specs.Runs.{EngineTables, withBuffer, engineFurther, GoodWith, Run}
 use Rattle.mission.specs.PointOne.{AsAfterPlan, EngineNumber, EngineSafe, EnginePointOne, PlanOrRefusal}
-use Rattle.mission.specs.PointLaws.{same-number, plan-not-refused, refused-not-plan, sheet-number, sheet-refusal, first-due}
+use Rattle.mission.specs.laws.PointLaws.{same-number, plan-not-refused, refused-not-plan, sheet-number, sheet-refusal, first-due}
 use Rattle.best_plan.specs.Plan.{Plan, planOf, withFile, written, sentBack}
 use Rattle.engine.specs.Engine.{searched, planningOf}
 use Rattle.engine.specs.laws.Rules.{by-cases}

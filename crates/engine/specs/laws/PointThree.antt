@@ -9,7 +9,7 @@ use native.Mathlib.Omega.{arith}
 use lib.ListN.{length}
 use Rattle.limits.specs.Refusals.{shortBuffer}
 use Rattle.answer.specs.Stated.{Stated, refused, ofTables}
-use Rattle.answer.specs.OneToOne.{refusal-no-plan}
+use Rattle.answer.specs.laws.OneToOne.{refusal-no-plan}
 use Rattle.answer.specs.declared.Refusal.the-variants.{Sheet}
 use Rattle.graph.specs.Graph.{Graph}
 use Rattle.records.specs.Arcs.{arcs}
@@ -18,10 +18,10 @@ use Rattle.sheet.specs.Verdict.{good, verdict}
 use Rattle.records.specs.declared.record.Record.{Record}
 use Rattle.network.specs.Network.{graphOf}
 use Rattle.planfile.specs.Format.{totalIn}
-use Rattle.planfile.specs.Encoded.{encoding-fields}
+use Rattle.planfile.specs.laws.Encoded.{encoding-fields}
 use Rattle.mission.specs.Runs.{ReaderTables, ReaderLong, EngineTables, EngineLong, Run, run}
-use Rattle.mission.specs.PointLaws.{same-number, plan-not-refused, refused-not-plan, same-plan, same-sheet}
-use Rattle.mission.specs.OnePlan.{one-plan}
+use Rattle.mission.specs.laws.PointLaws.{same-number, plan-not-refused, refused-not-plan, same-plan, same-sheet}
+use Rattle.mission.specs.laws.OnePlan.{one-plan}
 use Rattle.mission.specs.PointOne.{EngineAnswers}
 use Rattle.mission.specs.PointTwo.{IsPlan, EngineSound, Accepts}
 use Rattle.mission.specs.PointThree.{PlanTooLong, NoneCheaper, BestTotal, PlansOrNot, EngineBest, PointThree}

@@ -9,16 +9,16 @@ use native.Mathlib.Omega.{arith}
 use lib.ListN.{length}
 use Rattle.lists.specs.Over.{over}
 use Rattle.answer.specs.Stated.{plan}
-use Rattle.answer.specs.OneToOne.{refusal-no-plan}
+use Rattle.answer.specs.laws.OneToOne.{refusal-no-plan}
 use Rattle.answer.specs.declared.Refusal.the-variants.{Sheet}
 use Rattle.number_fields.specs.Fields.{Bytes}
 use Rattle.sheet.specs.Verdict.{good, verdict}
 use Rattle.records.specs.declared.record.Record.{Record}
 use Rattle.network.specs.Network.{graphOf}
 use Rattle.planfile.specs.Format.{fileBytes, fileSize}
-use Rattle.planfile.specs.FormatLaws.{file-bytes, length-file}
+use Rattle.planfile.specs.laws.FormatLaws.{file-bytes, length-file}
 use Rattle.mission.specs.Runs.{EngineTables, GoodWith, Run}
-use Rattle.mission.specs.PointLaws.{refused-not-plan, same-plan}
+use Rattle.mission.specs.laws.PointLaws.{refused-not-plan, same-plan}
 use Rattle.mission.specs.PointTwo.{PlanWritten, PlanAccepted, EngineSound, EnginePointTwo}
 use Rattle.plan_reader.specs.Reader.{readingOf}
 use Rattle.plan_reader.specs.laws.PointTwo.{point-two as reads-plans}

@@ -17,7 +17,7 @@ use Rattle.records.specs.Arcs.{arcs}
 use Rattle.sheet.specs.Verdict.{good, bad, verdict}
 use Rattle.records.specs.declared.record.Record.{Record}
 use Rattle.opener.specs.Opening.{SheetOpening, sheetOpening}
-use Rattle.opener.specs.Cases.{opening-bad, opening-short, opening-good, by-opening-cases}
+use Rattle.opener.specs.laws.Cases.{opening-bad, opening-short, opening-good, by-opening-cases}
 use Rattle.network.specs.Network.{graphOf}
 use Rattle.planfile.specs.Format.{fileSize}
 use Rattle.mission.specs.Runs.{EngineTables, engineFurther, EngineLong, Run, run, runOpened}

@@ -13,7 +13,7 @@ use Rattle.graph.specs.Graph.{Graph}
 use Rattle.graph.specs.HeldGraph.{graphIn}
 use Rattle.cost_table.specs.Cells.{costTable}
 use Rattle.opener.specs.Opening.{refuses, sheetOpening}
-use Rattle.opener.specs.Opened.{OpenedSheet}
+use Rattle.opener.specs.laws.Opened.{OpenedSheet}
 use Rattle.network.specs.HeldSheet.{opened-graph}
 use Rattle.mission.specs.Runs.{EngineTables, engineTables, withSheet, engineFurther, run}
 use Rattle.best_plan.specs.Plan.{planOf}

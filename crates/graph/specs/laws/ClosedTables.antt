@@ -7,7 +7,7 @@ use native.Mathlib.Omega.{arith}
 use lib.Bits.{bitAnd}
 use lib.Pow.{pow-lt}
 use Rattle.subset.specs.Sets.{single}
-use Rattle.subset.specs.Parts.{single-ne}
+use Rattle.subset.specs.laws.Parts.{single-ne}
 use Rattle.graph.specs.Graph.{Graph, Landing}
 use Rattle.graph.specs.ClosedSupported.{Closed}
 

@@ -14,7 +14,7 @@ use lib.Pow.{pow-lt}
 use lib.Dec.{ltb, ltb→lt, nltb→le}
 use Rattle.lists.specs.Tests.{by-fact, by-eq, true-fact, false-not-fact}
 use Rattle.subset.specs.Sets.{single}
-use Rattle.subset.specs.Parts.{single-ne}
+use Rattle.subset.specs.laws.Parts.{single-ne}
 use Rattle.graph.specs.Graph.{Graph, Sound}
 use Rattle.graph.specs.Subtrees.{Subtree, Covers, total}
 use Rattle.graph.specs.LeastTotals.{Least, NoSubtree, IsCostTable, Room}

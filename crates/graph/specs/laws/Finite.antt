@@ -9,7 +9,7 @@ use native.Mathlib.Omega.{arith}
 use lib.Pow.{ones-lt}
 use Rattle.lists.specs.Numbers.{number-listed, listed-number}
 use Rattle.subset.specs.Sets.{full}
-use Rattle.subset.specs.Parts.{full-every, full-ne}
+use Rattle.subset.specs.laws.Parts.{full-every, full-ne}
 use Rattle.graph.specs.Graph.{Graph, allArcs}
 use Rattle.graph.specs.Paths.{Reaches, ReachesAll}
 use Rattle.graph.specs.Subtrees.{Subtree, Covers}

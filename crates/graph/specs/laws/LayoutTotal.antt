@@ -15,8 +15,8 @@ use lib.Dec.{T}
 use Rattle.lists.specs.Tests.{true-fact, false-not-fact, not-both}
 use Rattle.lists.specs.Find.{first, first-says}
 use Rattle.subset.specs.Sets.{single, Part}
-use Rattle.subset.specs.Parts.{part-sum, rest-disjoint, part-and-rest}
-use Rattle.subset.specs.Sizes.{proper-part-size, rest-size}
+use Rattle.subset.specs.laws.Parts.{part-sum, rest-disjoint, part-and-rest}
+use Rattle.subset.specs.laws.Sizes.{proper-part-size, rest-size}
 use Rattle.graph.specs.Graph.{Graph, Sound, Landing}
 use Rattle.graph.specs.Subtrees.{Subtree, Covers, total}
 use Rattle.graph.specs.Growth.{kept}

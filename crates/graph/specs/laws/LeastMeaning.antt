@@ -18,7 +18,7 @@ use Rattle.lists.specs.Rising.{rising, rising-same}
 use Rattle.lists.specs.Members.{member-select, select-member, value-listed, listed-member, select-sublist}
 use Rattle.lists.specs.Sublists.{sublists}
 use Rattle.lists.specs.Sums.{Same, same-listed}
-use Rattle.subset.specs.Terminals.{has-empty}
+use Rattle.subset.specs.laws.Terminals.{has-empty}
 use Rattle.graph.specs.Graph.{Graph, Sound, allArcs}
 use Rattle.graph.specs.Subtrees.{Subtree, Covers, total, isSubtree, isCovering}
 use Rattle.graph.specs.LeastTotals.{subtreesFor, leastTotal, leastCell, NoSubtree, Least, IsLeastTotal, IsCostTable, Room}

@@ -11,7 +11,7 @@ use lib.Dec.{T, eqb, eqb→eq, eqb-refl, ltb, ltb→lt, lt→ltb, leb, leb→le,
 use Rattle.lists.specs.Tests.{by-fact, eq-fact, ne-fact, fact-ne, and-left, and-right, and-both, choice-passed, choice-first}
 use Rattle.lists.specs.Least.{leastTo, leastTo-top, leastTo-le, leastTo-at}
 use Rattle.subset.specs.Sets.{has, single, Part, isPart}
-use Rattle.subset.specs.Parts.{part-le, part-sum, rest-disjoint}
+use Rattle.subset.specs.laws.Parts.{part-le, part-sum, rest-disjoint}
 use Rattle.graph.specs.Graph.{Graph, Landing}
 use Rattle.graph.specs.Layout.{landsAlone}
 use Rattle.graph.specs.ClosedSupported.{Support, by-landing, by-arc, by-split}

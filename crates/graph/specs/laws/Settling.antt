@@ -10,7 +10,7 @@ use lib.Bits.{bitAnd, and-comm, and-self}
 use lib.Dec.{ltb, ltb→lt, nltb→le}
 use Rattle.lists.specs.Tests.{by-fact}
 use Rattle.subset.specs.Sets.{single, Part}
-use Rattle.subset.specs.Parts.{part-sum, part-sum-right}
+use Rattle.subset.specs.laws.Parts.{part-sum, part-sum-right}
 use Rattle.graph.specs.Graph.{Graph, Sound, Landing}
 use Rattle.graph.specs.ClosedSupported.{StartedSet, ClosedSet}
 

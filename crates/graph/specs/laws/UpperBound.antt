@@ -13,7 +13,7 @@ use Rattle.lists.specs.Tests.{by-fact, or-cases}
 use Rattle.lists.specs.Listed.{listed, listed-head, listed-tail, listed-cases, listed-left, listed-right, listed-append}
 use Rattle.lists.specs.Sums.{sum-append}
 use Rattle.subset.specs.Sets.{has, single}
-use Rattle.subset.specs.Terminals.{has-single, has-sum}
+use Rattle.subset.specs.laws.Terminals.{has-single, has-sum}
 use Rattle.graph.specs.Graph.{Graph, Sound, Landing}
 use Rattle.graph.specs.Paths.{DirectedPath}
 use Rattle.graph.specs.Subtrees.{Subtree, held, Covers, total}

@@ -11,7 +11,7 @@ use Rattle.limits.specs.Limits.{noCost}
 use Rattle.lists.specs.Find.{first}
 use Rattle.lists.specs.Over.{over}
 use Rattle.subset.specs.Sets.{full, rest}
-use Rattle.subset.specs.Parts.{full-ne, rest-difference}
+use Rattle.subset.specs.laws.Parts.{full-ne, rest-difference}
 use Rattle.lent_tables.specs.SheetTables.{SheetTables}
 use Rattle.graph.specs.Graph.{Graph}
 use Rattle.graph.specs.HeldGraph.{graphIn}

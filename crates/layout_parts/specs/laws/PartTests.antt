@@ -13,7 +13,7 @@ use Rattle.limits.specs.Limits.{noCost}
 use Rattle.lists.specs.Tests.{and-passes}
 use Rattle.lists.specs.Below.{below-more}
 use Rattle.subset.specs.Sets.{isPart, rest}
-use Rattle.subset.specs.Parts.{isPart-part, part-le, rest-difference}
+use Rattle.subset.specs.laws.Parts.{isPart-part, part-le, rest-difference}
 use Rattle.cost_table.specs.Cells.{cellIn}
 use Rattle.layout_parts.specs.Parts.{splitsIn}
 

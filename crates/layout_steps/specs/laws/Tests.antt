@@ -18,9 +18,9 @@ use Rattle.lists.specs.Tests.{true-fact, false-not-fact, same-tests, eq-fact, a
 use Rattle.lists.specs.Find.{first, first-found, first-none}
 use Rattle.lists.specs.Below.{below-more}
 use Rattle.subset.specs.Sets.{single, has, Part, isPart, terminalsIn}
-use Rattle.subset.specs.Parts.{part-has, single-part}
-use Rattle.subset.specs.Terminals.{has-lt}
-use Rattle.subset.specs.Sizes.{ones-single, one-terminal}
+use Rattle.subset.specs.laws.Parts.{part-has, single-part}
+use Rattle.subset.specs.laws.Terminals.{has-lt}
+use Rattle.subset.specs.laws.Sizes.{ones-single, one-terminal}
 use Rattle.lent_tables.specs.SheetTables.{SheetTables}
 use Rattle.graph.specs.HeldGraph.{graphIn, landings-in}
 use Rattle.graph.specs.Layout.{isDone}

@@ -3,7 +3,7 @@
 use borrow.Author.Tests.{le-leb, lt-leb, not-true, not-false}
 use mathlib.Core.Bool.{true, false}
 use native.Mathlib.Omega.{arith}
-use Rattle.lent_tables.specs.LengthLaws.{cells-fit, cells-test}
+use Rattle.lent_tables.specs.laws.LengthLaws.{cells-fit, cells-test}
 use borrow.Author.Needs.{needs}
 use Rattle.lent_tables.proofs.long_enough.Statement.{statement}
 use Rattle.lent_tables.proofs.long_enough.Tie as tie

@@ -17,7 +17,7 @@ use Rattle.limits.specs.Marks.{markBK, markST}
 use Rattle.lists.specs.Joined.{joined-append}
 use Rattle.lists.specs.Rest.{take-rest}
 use Rattle.number_fields.specs.Fields.{number16, bytes16, bytes32}
-use Rattle.number_fields.specs.FieldLaws.{number16-bytes, number32-bytes}
+use Rattle.number_fields.specs.laws.FieldLaws.{number16-bytes, number32-bytes}
 use Rattle.records.specs.Records.{RecordOk, linkIn, landingIn, headBytes, recordBytes, recordsBytes, endBytes, sizes, headSize}
 use Rattle.sheet.specs.laws.Good.{IsSheet}
 use Rattle.records.specs.declared.fields.Link.{Link}

@@ -1,7 +1,7 @@
 -- `number_fields::put_u16` meets its contract. A number of 16 bits has a high byte below 256.
 -- Assumes nothing.
 use denote.Ref.{now}
-use Rattle.number_fields.specs.FieldLaws.{put-number}
+use Rattle.number_fields.specs.laws.FieldLaws.{put-number}
 use borrow.Author.Needs.{needs}
 use Rattle.number_fields.proofs.put_u16.Statement.{statement}
 use Rattle.number_fields.proofs.put_u16.Tie as tie

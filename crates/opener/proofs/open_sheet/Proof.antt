@@ -3,9 +3,9 @@
 use mathlib.Core.Path.{sym, _∙_}
 use native.Mathlib.Omega.{arith}
 use denote.Ref.{now}
-use Rattle.number_fields.specs.FieldLaws.{known-bytes}
+use Rattle.number_fields.specs.laws.FieldLaws.{known-bytes}
 use Rattle.lent_tables.specs.SheetTables.{sheetTables}
-use Rattle.opener.specs.FromJudging.{few-terminals, loadable, sheet-loaded, sheet-refused, tables-short}
+use Rattle.opener.specs.laws.FromJudging.{few-terminals, loadable, sheet-loaded, sheet-refused, tables-short}
 use borrow.Author.Needs.{needs}
 use Rattle.opener.proofs.open_sheet.Statement.{statement}
 use Rattle.opener.proofs.open_sheet.Tie as tie

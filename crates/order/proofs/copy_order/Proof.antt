@@ -11,7 +11,7 @@ use Rattle.limits.specs.Limits.{maxSubsets}
 use Rattle.lists.specs.Numbers.{numbers}
 use Rattle.lists.specs.Values.{ValuesTo, no-values, next-value, all-values}
 use Rattle.order.specs.Order.{ofSize, orderBy, inOrder}
-use Rattle.order.specs.Rule.{computed}
+use Rattle.order.specs.laws.Rule.{computed}
 use borrow.Author.Needs.{needs}
 use Rattle.order.proofs.copy_order.Statement.{statement}
 use Rattle.order.proofs.copy_order.Tie as tie

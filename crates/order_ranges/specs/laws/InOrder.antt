@@ -11,9 +11,9 @@ use lib.Count.{ones}
 use lib.ListN.{length, getD}
 use Rattle.limits.specs.Limits.{maxSubsets}
 use Rattle.lists.specs.Numbers.{numbers, length-values, getD-values}
-use Rattle.subset.specs.Sizes.{ones-empty, ones-pos}
+use Rattle.subset.specs.laws.Sizes.{ones-empty, ones-pos}
 use Rattle.order.specs.Order.{inOrder}
-use Rattle.order.specs.Rule.{never-falls, position, one-position}
+use Rattle.order.specs.laws.Rule.{never-falls, position, one-position}
 use Rattle.order_ranges.specs.laws.Ranges.{Ordered, OneSize}
 
 pub in-order : Ordered inOrder maxSubsets

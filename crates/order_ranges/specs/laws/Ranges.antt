@@ -8,8 +8,8 @@ use native.Mathlib.Omega.{arith}
 use native.Mathlib.Decide.{decLt, ℕ-discrete}
 use lib.Count.{ones}
 use Rattle.subset.specs.Sets.{Part}
-use Rattle.subset.specs.Parts.{part-le}
-use Rattle.subset.specs.Sizes.{proper-part-size}
+use Rattle.subset.specs.laws.Parts.{part-le}
+use Rattle.subset.specs.laws.Sizes.{proper-part-size}
 
 -- m subsets, each number below m once, and no size before a smaller one
 pub record Ordered (at : ℕ → ℕ) (m : ℕ) : Type 0 where

@@ -27,7 +27,7 @@ use Rattle.number_fields.specs.Fields.{number16}
 use Rattle.planfile.specs.Format.{fileSize, rootIn, totalIn, countIn, markAt, listedArc, arcsIn}
 use Rattle.mission.specs.FileDue.{HeadRead, Sized, RecordPasses, PassBefore, FilePasses, FileDue, under-head, no-mark, no-root, short, left-over}
 use Rattle.mission.specs.FileDue.{no-arc-mark, no-arc, no-tree, missed, false-total}
-use Rattle.mission.specs.PointLaws.{plan-not-refused}
+use Rattle.mission.specs.laws.PointLaws.{plan-not-refused}
 use Rattle.file_tests.specs.FileFaults.{headFault, arcFault, isFault, faultAt, arcsFault, orElse, fileFault}
 use Rattle.file_tests.specs.laws.Faults.{some-fault, HeadOk, FileOk, head-passes, head-passed, arc-passed, arcs-fault, file-passes, file-passed, listed-on}
 use Rattle.plan_tests.specs.PlanFaults.{treeFault}

@@ -16,7 +16,7 @@ use Rattle.lists.specs.Find.{first}
 use Rattle.lists.specs.Over.{length-over}
 use Rattle.subset.specs.Sets.{full}
 use Rattle.answer.specs.Stated.{Family, Stated, plan, refused, ofTables, statedSheet, statedPlanFile}
-use Rattle.answer.specs.OneToOne.{refusal-no-plan}
+use Rattle.answer.specs.laws.OneToOne.{refusal-no-plan}
 use Rattle.answer.specs.declared.SheetFault.{SheetFault}
 use Rattle.answer.specs.declared.PlanFault.{PlanFault}
 use Rattle.answer.specs.declared.PlanFault.the-variants.{CutPlan, BadPlan, UnknownNumber, NoTree, StationMissed, FalseTotal}
@@ -29,13 +29,13 @@ use Rattle.number_fields.specs.Fields.{Bytes, number16}
 use Rattle.sheet.specs.Verdict.{good, verdict}
 use Rattle.records.specs.declared.record.Record.{Record}
 use Rattle.opener.specs.Opening.{SheetOpening}
-use Rattle.opener.specs.Cases.{by-opening-cases}
+use Rattle.opener.specs.laws.Cases.{by-opening-cases}
 use Rattle.network.specs.Network.{graphOf}
 use Rattle.planfile.specs.Format.{fileSize, rootIn, totalIn, countIn, markAt, listedArc, arcsIn}
 use Rattle.mission.specs.Runs.{ReaderTables, readerFurther, ReaderLong, GoodWith, Run, run}
 use Rattle.mission.specs.PointOne.{PlanOrRefusal, ReaderNumber, MarksReached, AsRead, ReaderSafe, ReaderAnswers, ReaderPointOne}
 use Rattle.mission.specs.PointTwo.{AcceptsPlans}
-use Rattle.mission.specs.PointLaws.{numberIn, same-number, plan-not-refused, refused-not-plan, sheet-number, sheet-refusal, first-due}
+use Rattle.mission.specs.laws.PointLaws.{numberIn, same-number, plan-not-refused, refused-not-plan, sheet-number, sheet-refusal, first-due}
 use Rattle.file_tests.specs.FileFaults.{headFault, arcFault, isFault, faultAt, arcsFault, orElse, fileFault}
 use Rattle.reaching.specs.Marks.{marksOf}
 use Rattle.reaching.specs.laws.MarkLaws.{marks-size}

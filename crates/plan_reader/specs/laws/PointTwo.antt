@@ -16,7 +16,7 @@ use Rattle.lists.specs.Numbers.{length-values, value-in}
 use Rattle.lists.specs.Tests.{true-fact, fact-true}
 use Rattle.subset.specs.Sets.{full}
 use Rattle.answer.specs.Stated.{plan}
-use Rattle.answer.specs.OneToOne.{refusal-no-plan}
+use Rattle.answer.specs.laws.OneToOne.{refusal-no-plan}
 use Rattle.answer.specs.declared.Refusal.the-variants.{Sheet, Tables, PlanFile}
 use Rattle.answer.specs.declared.TableFault.the-variants.{ShortTables}
 use Rattle.answer.specs.declared.PlanFault.{PlanFault}
@@ -28,10 +28,10 @@ use Rattle.number_fields.specs.Fields.{Bytes}
 use Rattle.sheet.specs.Verdict.{good, verdict}
 use Rattle.records.specs.declared.record.Record.{Record}
 use Rattle.opener.specs.Opening.{SheetOpening}
-use Rattle.opener.specs.Cases.{by-opening-cases}
+use Rattle.opener.specs.laws.Cases.{by-opening-cases}
 use Rattle.network.specs.Network.{graphOf}
 use Rattle.planfile.specs.Format.{rootIn, totalIn, countIn, listedArc, arcsIn}
-use Rattle.planfile.specs.Encoded.{WellFormed, FieldsAre, fields-encoding, encoding-fields}
+use Rattle.planfile.specs.laws.Encoded.{WellFormed, FieldsAre, fields-encoding, encoding-fields}
 use Rattle.mission.specs.Runs.{GoodWith, ReaderTables, readerFurther, ReaderLong, Run}
 use Rattle.mission.specs.PointTwo.{EncodesPlan, ReaderPointTwo}
 use Rattle.file_tests.specs.FileFaults.{fileFault, orElse}

@@ -16,7 +16,7 @@ use Rattle.sheet.specs.Verdict.{good, bad, verdict}
 use Rattle.records.specs.declared.record.Record.{Record}
 use Rattle.record_tables.specs.Loaded.{loaded}
 use Rattle.opener.specs.Opening.{SheetOpening}
-use Rattle.opener.specs.Cases.{opening-bad, opening-short, opening-good}
+use Rattle.opener.specs.laws.Cases.{opening-bad, opening-short, opening-good}
 use Rattle.network.specs.Network.{graphOf}
 use Rattle.planfile.specs.Format.{rootIn, totalIn, countIn, arcsIn}
 use Rattle.mission.specs.Runs.{ReaderTables, readerTables, readerFurther, ReaderLong, Run, run, runOpened}

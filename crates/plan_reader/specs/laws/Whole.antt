@@ -10,7 +10,7 @@ use Rattle.lent_tables.specs.SheetTables.{SheetTables}
 use Rattle.graph.specs.Graph.{Graph}
 use Rattle.graph.specs.HeldGraph.{graphIn}
 use Rattle.opener.specs.Opening.{refuses, sheetOpening}
-use Rattle.opener.specs.Opened.{OpenedSheet}
+use Rattle.opener.specs.laws.Opened.{OpenedSheet}
 use Rattle.network.specs.HeldSheet.{opened-graph}
 use Rattle.mission.specs.Runs.{ReaderTables, readerTables, withReaderSheet, readerFurther, run}
 use Rattle.file_reader.specs.FileAnswer.{answerTo, marksAfter}

@@ -8,9 +8,9 @@ use lib.Dec.{T, eqb, eqb→eq, eqb-refl}
 use borrow.Author.Tests.{eqb-true, eq-eqb}
 use Rattle.lists.specs.Every.{Every, every-mem}
 use Rattle.subset.specs.Sets.{empty, full, single, has}
-use Rattle.subset.specs.Terminals.{has-empty, has-single}
+use Rattle.subset.specs.laws.Terminals.{has-empty, has-single}
 use Rattle.subset.specs.Unions.{unions-has, has-unions}
-use Rattle.subset.specs.Parts.{terminals-lt, every-full, full-every}
+use Rattle.subset.specs.laws.Parts.{terminals-lt, every-full, full-every}
 use Rattle.records.specs.Landings.{Heard, terminalsOf, terminalsAt, heardBy, heard}
 use Rattle.records.specs.Records.{RecordOk}
 use Rattle.records.specs.declared.record.Record.{Record}

@@ -9,8 +9,8 @@ use borrow.Author.Tests.{eqb-true, eq-eqb, ne-eqb}
 use lib.Count.{ones}
 use lib.Dec.{T, eqb}
 use Rattle.subset.specs.Sets.{single, has, isPart}
-use Rattle.subset.specs.Parts.{isPart-part, part-isPart, part-has, single-part, single-ne}
-use Rattle.subset.specs.Sizes.{ones-single, one-terminal}
+use Rattle.subset.specs.laws.Parts.{isPart-part, part-isPart, part-has, single-part, single-ne}
+use Rattle.subset.specs.laws.Sizes.{ones-single, one-terminal}
 use Rattle.working_none.specs.laws.WorkingNone.{workingNone}
 
 -- the cell of the set w at a node where these terminals have a landing

@@ -8,7 +8,7 @@ use native.Mathlib.Omega.{arith}
 use native.Mathlib.Decide.{decLt}
 use lib.Pow.{pow-lt, pow-pos}
 use Rattle.subset.specs.Sets.{single, Part}
-use Rattle.subset.specs.Parts.{part-le, difference-part, rest-disjoint, part-and-rest}
+use Rattle.subset.specs.laws.Parts.{part-le, difference-part, rest-disjoint, part-and-rest}
 use Rattle.graph.specs.Graph.{Graph, Sound, Landing}
 use Rattle.graph.specs.LeastTotals.{IsCostTable, Room}
 use Rattle.graph.specs.ClosedSupported.{Support, by-arc, by-split, Supported, Capped, StartedSet, ClosedSet}

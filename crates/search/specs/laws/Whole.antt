@@ -17,8 +17,8 @@ use Rattle.limits.specs.Limits.{maxNodes, maxTerminals, maxSubsets, maxWeight, 
 use Rattle.lists.specs.Numbers.{numbers, length-values, getD-values}
 use Rattle.lists.specs.Over.{over}
 use Rattle.subset.specs.Sets.{single, terminalsIn}
-use Rattle.subset.specs.Terminals.{has-lt}
-use Rattle.subset.specs.Parts.{part-le}
+use Rattle.subset.specs.laws.Terminals.{has-lt}
+use Rattle.subset.specs.laws.Parts.{part-le}
 use Rattle.order.specs.Order.{inOrder}
 use Rattle.lent_tables.specs.SheetTables.{SheetTables, arcTablesOf, arcs-long}
 use Rattle.graph.specs.LeastTotals.{leastTotal, IsLeastTotal, leastCell, IsCostTable, Room}
@@ -28,7 +28,7 @@ use Rattle.graph.specs.HeldGraph.{graphIn, start-in, end-in, weight-in, landing
 use Rattle.graph.specs.ClosedSupported.{by-landing}
 use Rattle.graph.specs.laws.LeastMeaning.{room-above}
 use Rattle.cost_table.specs.Cells.{cellIn, costTable}
-use Rattle.cost_table.specs.Rows.{length-cells, cells-are}
+use Rattle.cost_table.specs.laws.Rows.{length-cells, cells-are}
 use Rattle.working_none.specs.laws.WorkingNone.{finished-below, workingNone, finished}
 use Rattle.working_none.specs.laws.Low.{entry, AllLow}
 use Rattle.order_ranges.specs.laws.Ranges.{OneSize}

@@ -14,7 +14,7 @@ use Rattle.limits.specs.Marks.{markHD, markLK, markBK, markST, markED}
 use Rattle.lists.specs.Every.{every-drop}
 use Rattle.subset.specs.Sets.{full}
 use Rattle.number_fields.specs.Fields.{Bytes, bytes16, bytes32}
-use Rattle.number_fields.specs.FieldLaws.{number16-bytes, number32-bytes, field8, field16, field32}
+use Rattle.number_fields.specs.laws.FieldLaws.{number16-bytes, number32-bytes, field8, field16, field32}
 use Rattle.records.specs.Records.{LinkOk, RecordOk, linkFields, headBytes, recordBytes, endBytes, headSize, size}
 use Rattle.records.specs.Arcs.{arcsOf}
 use Rattle.record_tests.specs.Tests.{linkTests, oneWayFound, bothWaysFound, landingFound}

@@ -8,7 +8,7 @@ use native.Mathlib.Omega.{arith}
 use native.Mathlib.Decide.{ℕ-discrete, decLt}
 use lib.Bits.{bitAnd, and-self, and-le-l}
 use Rattle.subset.specs.Sets.{Part}
-use Rattle.subset.specs.Falling.{common-part, next-part}
+use Rattle.subset.specs.laws.Falling.{common-part, next-part}
 
 -- w is split into y and the rest at a cost of r
 pub record SplitAt (f : ℕ → ℕ) (w r : ℕ) : Type 0 where

@@ -9,7 +9,7 @@ use native.Mathlib.Decide.{ℕ-discrete}
 use lib.ListN.{length, getD, set, length-set}
 use lib.Seq.{getD-set-same, getD-set-other}
 use Rattle.subset.specs.Sets.{Part}
-use Rattle.subset.specs.Parts.{part-le, difference-part}
+use Rattle.subset.specs.laws.Parts.{part-le, difference-part}
 use Rattle.working_none.specs.laws.WorkingNone.{workingNone}
 use Rattle.working_none.specs.laws.Low.{entry, AllLow}
 use Rattle.order_ranges.specs.laws.Ranges.{Ordered, OneSize, Outside, Inside, shorter, inside-or-out, part-outside}

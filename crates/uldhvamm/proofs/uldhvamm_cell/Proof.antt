@@ -1,7 +1,7 @@
 -- `uldhvamm_cell` meets its contract: it gives the enquirer's answer.
 -- Assumes nothing.
 use borrow.Author.Needs.{needs}
-use Rattle.c_values.specs.Giving.{gives-same}
+use Rattle.c_values.specs.laws.Giving.{gives-same}
 use Rattle.uldhvamm.proofs.uldhvamm_cell.Statement.{statement}
 use Rattle.uldhvamm.proofs.uldhvamm_cell.Tie as tie
 

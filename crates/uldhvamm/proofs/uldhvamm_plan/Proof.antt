@@ -3,7 +3,7 @@
 use borrow.Author.Needs.{needs}
 use Rattle.uldhvamm.proofs.uldhvamm_plan.Statement.{statement}
 use Rattle.uldhvamm.proofs.uldhvamm_plan.Tie as tie
-use Rattle.uldhvamm.specs.Called.{called}
+use Rattle.uldhvamm.specs.laws.Called.{called}
 
 plan-sheet-requires : tie.Need-plan-sheet-requires
 plan-sheet-requires c κs = search needs

@@ -3,7 +3,7 @@
 use borrow.Author.Needs.{needs}
 use Rattle.uldhvamm.proofs.uldhvamm_read_plan.Statement.{statement}
 use Rattle.uldhvamm.proofs.uldhvamm_read_plan.Tie as tie
-use Rattle.uldhvamm.specs.Called.{called}
+use Rattle.uldhvamm.specs.laws.Called.{called}
 
 read-plan-requires : tie.Need-read-plan-requires
 read-plan-requires c κs = search needs

@@ -4,8 +4,8 @@ use mathlib.Core.Path.{sym}
 use denote.Ref.{now}
 use borrow.Author.Tests.{lt-ltb, le-ltb}
 use Rattle.cost_table.specs.Cheapest.{columnIn}
-use Rattle.cost_table.specs.Rows.{place-lt}
-use Rattle.cost_table.specs.Lowest.{chosen}
+use Rattle.cost_table.specs.laws.Rows.{place-lt}
+use Rattle.cost_table.specs.laws.Lowest.{chosen}
 use Rattle.cost_table.proofs.cheapest.cheaper.Statement.{statement}
 use Rattle.cost_table.proofs.cheapest.cheaper.Tie as tie
 

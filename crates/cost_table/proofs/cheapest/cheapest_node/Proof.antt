@@ -5,7 +5,7 @@ use Prim.Native.Nat.{_≤_, _-_}
 use native.Mathlib.Omega.{arith}
 use denote.Ref.{now}
 use Rattle.cost_table.specs.Cheapest.{columnIn, LowestTo}
-use Rattle.cost_table.specs.Lowest.{lowest-one, lowest-next, lowest-all}
+use Rattle.cost_table.specs.laws.Lowest.{lowest-one, lowest-next, lowest-all}
 use Rattle.cost_table.proofs.cheapest.cheapest_node.Statement.{statement}
 use Rattle.cost_table.proofs.cheapest.cheapest_node.Tie as tie
 

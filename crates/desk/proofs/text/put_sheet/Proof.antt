@@ -2,9 +2,9 @@
 -- Assumes nothing.
 use native.Mathlib.Omega.{arith}
 use denote.Ref.{now}
-use Rattle.number_fields.specs.FieldLaws.{known-bytes}
+use Rattle.number_fields.specs.laws.FieldLaws.{known-bytes}
 use Rattle.desk_words.specs.laws.Storing.{stored-same}
-use Rattle.desk.specs.Answered.{zeros, zeros-desk, answered}
+use Rattle.desk.specs.laws.Answered.{zeros, zeros-desk, answered}
 use borrow.Author.Needs.{needs}
 use Rattle.desk.proofs.text.put_sheet.Statement.{statement}
 use Rattle.desk.proofs.text.put_sheet.Tie as tie

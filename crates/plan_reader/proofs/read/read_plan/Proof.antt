@@ -3,10 +3,10 @@
 use native.Mathlib.Omega.{arith}
 use lib.ListN.{length}
 use denote.Ref.{now}
-use Rattle.number_fields.specs.FieldLaws.{known-bytes}
+use Rattle.number_fields.specs.laws.FieldLaws.{known-bytes}
 use Rattle.lent_tables.specs.SheetTables.{sheetTables}
 use Rattle.lent_tables.specs.Lengths.{marksOnly}
-use Rattle.opener.specs.Opened.{opened-sheet, opened-refusal}
+use Rattle.opener.specs.laws.Opened.{opened-sheet, opened-refusal}
 use Rattle.network.specs.HeldSheet.{opened-held}
 use Rattle.mission.specs.Runs.{readerTables}
 use Rattle.plan_reader.specs.laws.Whole.{refusal-read, whole-read}

@@ -10,7 +10,7 @@ use denote.Ref.{now}
 use borrow.Author.Needs.{needs}
 use Rattle.lists.specs.Joined.{joined}
 use Rattle.planfile.specs.Format.{arcBytes, fileSize}
-use Rattle.planfile.specs.WritingLaws.{put-arc-more}
+use Rattle.planfile.specs.laws.WritingLaws.{put-arc-more}
 use Rattle.planfile.proofs.write.put_arcs.Statement.{statement}
 use Rattle.planfile.proofs.write.put_arcs.Tie as tie
 

@@ -5,8 +5,8 @@ use Prim.Native.Nat.{ℕ, _<_, _^_}
 use native.Mathlib.Omega.{arith}
 use denote.Ref.{now}
 use Rattle.lists.specs.Every.{at-every}
-use Rattle.planfile.specs.FormatLaws.{Fits}
-use Rattle.planfile.specs.WritingLaws.{total-too-large, too-many-arcs, buffer-too-short, file-written}
+use Rattle.planfile.specs.laws.FormatLaws.{Fits}
+use Rattle.planfile.specs.laws.WritingLaws.{total-too-large, too-many-arcs, buffer-too-short, file-written}
 use borrow.Author.Needs.{needs}
 use Rattle.planfile.proofs.write.write_plan.Statement.{statement}
 use Rattle.planfile.proofs.write.write_plan.Tie as tie

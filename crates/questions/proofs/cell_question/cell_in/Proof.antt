@@ -10,7 +10,7 @@ use borrow.Author.Needs.{needs}
 use borrow.Author.Tests.{not-true, not-false, leb-true, leb-false}
 use Rattle.limits.specs.Limits.{maxSubsets}
 use Rattle.answer.specs.Stated.{cell}
-use Rattle.cost_table.specs.Rows.{place-lt}
+use Rattle.cost_table.specs.laws.Rows.{place-lt}
 use Rattle.questions.specs.Questions.{inRange}
 use Rattle.questions.specs.laws.Tested.{Range, ranged, few-sets, cell-head, cell-short, cell-site, cell-set, cell-stands}
 use Rattle.questions.proofs.cell_question.cell_in.Statement.{statement}

@@ -11,7 +11,7 @@ use borrow.Author.Tests.{not-true, not-false, leb-true, leb-false}
 use Rattle.limits.specs.Limits.{maxSubsets}
 use Rattle.answer.specs.Stated.{sender, noSender}
 use Rattle.cost_table.specs.Cheapest.{columnIn}
-use Rattle.cost_table.specs.Rows.{place-lt}
+use Rattle.cost_table.specs.laws.Rows.{place-lt}
 use Rattle.questions.specs.Questions.{inRange}
 use Rattle.questions.specs.laws.Tested.{Range, ranged, few-sets, sender-head, sender-short, sender-set, sender-stands, sends-cheapest, sends-none}
 use Rattle.questions.proofs.sender_question.best_sender_in.Statement.{statement}

@@ -1,8 +1,8 @@
 -- `records::record::Record::heard` meets its contract.
 -- Assumes nothing.
 use mathlib.Core.Path.{sym, ap, _∙_, subst}
-use Rattle.records.specs.Landings.{heardBy}
-use Rattle.records.specs.Landings.{LandsOne}
+use native.Mathlib.Omega.{arith}
+use Rattle.records.specs.Landings.{heardBy, LandsOne}
 use borrow.Author.Needs.{needs}
 use Rattle.records.proofs.record.Record.heard.Statement.{statement}
 use Rattle.records.proofs.record.Record.heard.Tie as tie
@@ -17,7 +17,7 @@ enum-known-self : tie.Need-enum-known-self
 enum-known-self c = search needs
 
 single-requires : tie.Need-single-requires
-single-requires c κs = subst LandsOne (c .before .self .given .1) (c .before .before .before .pre)
+single-requires c κs = omega (arith, subst LandsOne (c .before .self .given .1) (c .before .before .before .pre))
 
 returns : tie.Need-returns
 returns c = search needs

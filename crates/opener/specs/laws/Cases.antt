@@ -15,7 +15,7 @@ use Rattle.records.specs.Arcs.{arcs}
 use Rattle.sheet.specs.Verdict.{Verdict, good, bad, verdict}
 use Rattle.records.specs.declared.record.Record.{Record}
 use Rattle.lent_tables.specs.Lengths.{AllLong, areLong}
-use Rattle.lent_tables.specs.LengthLaws.{test-long, long-passes}
+use Rattle.lent_tables.specs.laws.LengthLaws.{test-long, long-passes}
 use Rattle.opener.specs.Opening.{SheetOpening, refuses, opens, byVerdict, sheetOpening}
 use Rattle.lent_tables.specs.declared.FurtherLengths.{FurtherLengths}
 

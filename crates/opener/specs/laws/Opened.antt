@@ -14,7 +14,7 @@ use Rattle.record_tables.specs.Loaded.{loaded}
 use Rattle.record_tables.specs.laws.Writing.{loaded-lengths}
 use Rattle.lent_tables.specs.Lengths.{AllLong}
 use Rattle.opener.specs.Opening.{SheetOpening, refuses, opens, sheetOpening, Returned, sheet, refusal, returned, Outcome, outcome, loadedAs, loadingOf}
-use Rattle.opener.specs.Cases.{by-opening-cases}
+use Rattle.opener.specs.laws.Cases.{by-opening-cases}
 use Rattle.lent_tables.specs.declared.FurtherLengths.{FurtherLengths}
 use Rattle.opener.specs.declared.Loaded.{Loaded}
 use Rattle.opener.specs.declared.Loaded.the-variants.{Sheet, Refused}

@@ -19,7 +19,7 @@ use Rattle.lists.specs.Find.{allOf, all-entries, entries-all}
 use Rattle.lists.specs.Numbers.{numbers, length-values, getD-values}
 use Rattle.lists.specs.Joined.{joined, length-joined, drop-joined}
 use Rattle.number_fields.specs.Fields.{Bytes, number16, bytes16, bytes32}
-use Rattle.number_fields.specs.FieldLaws.{number16-bytes, number16-drop, field16, field32}
+use Rattle.number_fields.specs.laws.FieldLaws.{number16-bytes, number16-drop, field16, field32}
 use Rattle.planfile.specs.Format.{headBytes, arcBytes, fileBytes, twoBytes, fourBytes, fits, encoding}
 use Rattle.planfile.specs.Format.{fileSize, rootIn, totalIn, countIn, markAt, listedArc, arcsTo}
 

@@ -12,9 +12,9 @@ use Rattle.lists.specs.Every.{at-every}
 use Rattle.lists.specs.Joined.{joined}
 use Rattle.lists.specs.Numbers.{length-values, getD-values}
 use Rattle.number_fields.specs.Fields.{Bytes, number16, bytes16, bytes32}
-use Rattle.number_fields.specs.FieldLaws.{number16-bytes, number32-bytes, number16-fits, number32-fits}
+use Rattle.number_fields.specs.laws.FieldLaws.{number16-bytes, number32-bytes, number16-fits, number32-fits}
 use Rattle.planfile.specs.Format.{headBytes, arcBytes, fileBytes, encoding, fileSize, rootIn, totalIn, countIn, markAt, listedArc, arcsTo, arcsIn}
-use Rattle.planfile.specs.FormatLaws.{Fits, fits-encoding, encoding-fits, length-file, mark-is, arcs-read, head-stands, records-stand}
+use Rattle.planfile.specs.laws.FormatLaws.{Fits, fits-encoding, encoding-fits, length-file, mark-is, arcs-read, head-stands, records-stand}
 
 -- the length and the marks are right
 pub record WellFormed (file : List ℕ) : Type 0 where

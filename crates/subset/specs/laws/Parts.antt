@@ -15,7 +15,7 @@ use lib.Bits.{bitAnd, and-step, and-comm, and-le-r, and-le-l, and-zero-l, and-ma
 use borrow.Author.Tests.{eq-eqb, eqb-true}
 use Rattle.lists.specs.Tests.{eq-fact, and-right, or-cases, or-left, or-right}
 use Rattle.subset.specs.Sets.{full, single, has, Part, isPart, rest, union}
-use Rattle.subset.specs.Terminals.{has-zero, has-suc, has-and, has-union, has-single, has-full}
+use Rattle.subset.specs.laws.Terminals.{has-zero, has-suc, has-and, has-union, has-single, has-full}
 
 -- ---- a part, and its stations
 

@@ -17,7 +17,7 @@ use Rattle.lists.specs.Joined.{joined, joined-every}
 use Rattle.lists.specs.Numbers.{getD-values}
 use Rattle.lists.specs.Over.{over, length-over}
 use Rattle.answer.specs.Stated.{Stated, Family, plan, cell, sender, noSender, refused, ofTables, statedSheet}
-use Rattle.answer.specs.OneToOne.{refusal-no-plan}
+use Rattle.answer.specs.laws.OneToOne.{refusal-no-plan}
 use Rattle.answer.specs.declared.Refusal.the-variants.{Sheet}
 use Rattle.answer.specs.declared.SheetFault.{SheetFault}
 use Rattle.answer.specs.declared.SheetFault.the-variants.{ShortSheet, StrangeMark, BadHead, NoSuchSite, NoSuchStation, Loop, BadPrice, TooManyLegs, AfterTheEnd, Unheard}
@@ -31,9 +31,9 @@ use Rattle.opener.specs.Opening.{SheetOpening, refuses, opens, byVerdict, byOpe
 use Rattle.record_tables.specs.laws.Held.{start-held, end-held, weight-held}
 use Rattle.network.specs.Network.{graphOf}
 use Rattle.planfile.specs.Format.{fileBytes, fileSize, listedArc, arcsTo}
-use Rattle.planfile.specs.FormatLaws.{length-file, arcs-read-first}
+use Rattle.planfile.specs.laws.FormatLaws.{length-file, arcs-read-first}
 use Rattle.mission.specs.Runs.{EngineTables, engineTables, EngineLong, Run, run}
-use Rattle.mission.specs.PointLaws.{refused-not-plan, same-plan}
+use Rattle.mission.specs.laws.PointLaws.{refused-not-plan, same-plan}
 use Rattle.best_plan.specs.Plan.{Plan, planOf, withFile}
 use Rattle.engine.specs.Engine.{searched, planningOf}
 use Rattle.engine.specs.laws.Rules.{by-cases}

@@ -8,8 +8,8 @@ use lib.Dec.{T}
 use lib.Bits.{bitAnd, and-step, and-le-l, and-zero-r}
 use Rattle.lists.specs.Tests.{and-right}
 use Rattle.subset.specs.Sets.{has, Part}
-use Rattle.subset.specs.Terminals.{has-and}
-use Rattle.subset.specs.Parts.{has-part}
+use Rattle.subset.specs.laws.Terminals.{has-and}
+use Rattle.subset.specs.laws.Parts.{has-part}
 
 -- what a number and w have in common is a part of w
 pub common-part : (x w : ℕ) → Part (bitAnd x w) w

@@ -21,9 +21,9 @@ use Rattle.sheet.specs.declared.judge.Judged.the-variants.{Good, Fault}
 use Rattle.loader.specs.LoadedBy.{loadedBy}
 use Rattle.loader.specs.laws.Loading.{Loadable}
 use Rattle.lent_tables.specs.Lengths.{AllLong, areLong}
-use Rattle.lent_tables.specs.LengthLaws.{test-long, long-passes}
+use Rattle.lent_tables.specs.laws.LengthLaws.{test-long, long-passes}
 use Rattle.opener.specs.Opening.{sheet, refusal, outcome, loadedAs, loadingOf}
-use Rattle.opener.specs.Cases.{opening-bad, opening-short, opening-good}
+use Rattle.opener.specs.laws.Cases.{opening-bad, opening-short, opening-good}
 use Rattle.lent_tables.specs.declared.FurtherLengths.{FurtherLengths}
 
 -- ---- the judging

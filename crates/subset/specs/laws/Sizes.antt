@@ -9,8 +9,8 @@ use lib.Bits.{and-step, and-le-l, and-zero-r}
 use lib.Count.{ones, ones-step, ones-ones}
 use lib.Dec.{T, eqb-refl}
 use Rattle.subset.specs.Sets.{empty, single, has, Part}
-use Rattle.subset.specs.Terminals.{single-half, single-even, has-single}
-use Rattle.subset.specs.Parts.{part-le}
+use Rattle.subset.specs.laws.Terminals.{single-half, single-even, has-single}
+use Rattle.subset.specs.laws.Parts.{part-le}
 
 pub ones-empty : ones empty ≡ 0
 ones-empty = ones-ones 0

@@ -16,7 +16,7 @@ use Rattle.records.specs.declared.record.Record.{Record}
 use Rattle.lent_tables.specs.SheetTables.{SheetTables}
 use Rattle.lent_tables.specs.Lengths.{AllLong}
 use Rattle.opener.specs.Opening.{SheetOpening, sheetOpening}
-use Rattle.opener.specs.Cases.{opening-bad, opening-short, opening-good}
+use Rattle.opener.specs.laws.Cases.{opening-bad, opening-short, opening-good}
 use Rattle.lent_tables.specs.declared.FurtherLengths.{FurtherLengths}
 use Rattle.mission.specs.Runs.{Run, runOpened}
 use Rattle.mission.specs.PointOne.{PlanOrRefusal, FirstDue}

@@ -16,7 +16,7 @@ use Rattle.lists.specs.Count.{count, count-position}
 use Rattle.lists.specs.Every.{every-at}
 use Rattle.lists.specs.Sorted.{sorted-at}
 use Rattle.order.specs.Order.{ofSize, orderBy, order, inOrder}
-use Rattle.order.specs.BySize.{Before, once-orderBy, length-orderBy, every-orderBy, sorted-orderBy, same-orderBy}
+use Rattle.order.specs.laws.BySize.{Before, once-orderBy, length-orderBy, every-orderBy, sorted-orderBy, same-orderBy}
 
 -- the order of three stations
 three-terminals : orderBy ones 3 ≡ 0 ∷ 1 ∷ 2 ∷ 4 ∷ 3 ∷ 5 ∷ 6 ∷ 7 ∷ []

@@ -12,7 +12,7 @@ use Rattle.limits.specs.Limits.{maxTerminals}
 use Rattle.lists.specs.Every.{Every, every-mem}
 use Rattle.lists.specs.Over.{over}
 use Rattle.subset.specs.Sets.{terminalsIn}
-use Rattle.subset.specs.Parts.{terminals-lt}
+use Rattle.subset.specs.laws.Parts.{terminals-lt}
 use Rattle.records.specs.Arcs.{Arc, arc, arcs, arcAt}
 use Rattle.records.specs.Landings.{terminalsAt}
 use Rattle.records.specs.Records.{RecordOk}

@@ -6,7 +6,7 @@ use mathlib.Core.Path.{_≡_, ap}
 use native.Mathlib.Omega.{arith}
 use lib.Count.{ones}
 use Rattle.subset.specs.Sets.{Part}
-use Rattle.subset.specs.Sizes.{proper-part-size}
+use Rattle.subset.specs.laws.Sizes.{proper-part-size}
 
 -- a part of the set at position j, but not the set itself, that stands at any position stands at an earlier one
 pub earlier-part : (at : ℕ → ℕ) (m j y : ℕ) → ((i l : ℕ) → i ≤ l → l < m → ones (at i) ≤ ones (at l)) → (i : ℕ) × (i < m) × (at i ≡ y)

@@ -14,7 +14,7 @@ use Rattle.graph.specs.Paths.{ReachesAll}
 use Rattle.graph.specs.Subtrees.{Subtree, CoversAll, total}
 use Rattle.records.specs.declared.record.Record.{Record}
 use Rattle.network.specs.Network.{graphOf}
-use Rattle.network.specs.OfSheets.{sheet-total}
+use Rattle.network.specs.laws.OfSheets.{sheet-total}
 use Rattle.mission.specs.Rule.{Costs, ArcFits, PartSplits, LeastRoot}
 use Rattle.mission.specs.PointTwo.{IsPlan}
 use Rattle.mission.specs.PointThree.{NoneCheaper, SomeReachesAll}

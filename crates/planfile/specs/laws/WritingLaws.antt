@@ -16,7 +16,7 @@ use Rattle.lists.specs.Joined.{joined, joined-append, length-joined}
 use Rattle.lists.specs.Over.{over}
 use Rattle.lists.specs.Stores.{sets-then, sets-over}
 use Rattle.planfile.specs.Format.{headBytes, arcBytes, fileBytes, fits, fileSize}
-use Rattle.planfile.specs.FormatLaws.{Fits, passed-fits, fits-encoding, length-file}
+use Rattle.planfile.specs.laws.FormatLaws.{Fits, passed-fits, fits-encoding, length-file}
 use Rattle.planfile.specs.Writing.{writing, writtenOver, writingOf}
 use Rattle.planfile.specs.declared.write.Written.the-variants.{File, ShortBuffer, NoFile}
 

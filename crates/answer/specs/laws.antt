@@ -1,0 +1,2 @@
+-- no two refusals are stated alike
+pub mod OneToOne

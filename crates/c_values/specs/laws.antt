@@ -1,0 +1,2 @@
+-- an answer that is given value by value
+pub mod Giving

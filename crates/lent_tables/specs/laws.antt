@@ -1,0 +1,2 @@
+-- the tests of the lengths
+pub mod LengthLaws

@@ -1,0 +1,2 @@
+-- laws of numbers and their bytes
+pub mod FieldLaws

@@ -1,0 +1,3 @@
+-- the rule of the order
+pub mod BySize
+pub mod Rule

@@ -1,0 +1,2 @@
+-- a call, from the run behind it
+pub mod Called
