@@ -61,7 +61,7 @@ pub record FirstDue (sheet : List ℕ) (Long : (n k arcCount : ℕ) → Type 0) 
 
 -- ---- the tables
 
--- as after a plan: "the first entries of these hold the legs in order, each site's set of stations" (`loaded` of crate loader), "the costs, and 1
+-- as after a plan: "the first entries of these hold the legs in order, each site's set of stations" (`loaded` of crate record_tables), "the costs, and 1
 -- in each mark; later entries are untouched"
 pub record AsAfterPlan (n k : ℕ) (records : List Record) (before after : EngineTables) : Type 0 where
   pub tables : after .tables ≡ loaded n records (before .tables)

@@ -1,6 +1,6 @@
-// The library for other languages: the entry points as C functions. A slice passes as a pointer and a length. Each function returns 0 for a plan,
-// an acceptance or an answer of the enquirer, else the number of the refusal, and writes what the answer states into `answer`, as far as it
-// has entries.
+// The library for other languages: the number of its interface, and the entry points as C functions. A slice passes as a pointer and a length. Each
+// entry point returns 0 for a plan, an acceptance or an answer of the enquirer, else the number of the refusal, and writes what the answer
+// states into `answer`, as far as it has entries.
 use c_values::give;
 use c_values::give_enquiry;
 use engine::planning::plan_sheet;
