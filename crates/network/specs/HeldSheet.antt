@@ -30,27 +30,27 @@ pub record HeldSheet (n k m : ℕ) (t : SheetTables) (f : FurtherLengths) : Type
   pub long : AllLong n k m t f
 
 module _ (s : List ℕ) (bytes : Bytes s) (before after : SheetTables) (f : FurtherLengths) (n k m : ℕ) (o : OpenedSheet s before after f n k m) where
-  is-sheet : IsSheet s n k (o .records)
-  is-sheet = good-is-sheet s bytes n k (o .records) (o .good-sheet)
+  is-sheet : IsSheet s n k (o .judged .records)
+  is-sheet = good-is-sheet s bytes n k (o .judged .records) (o .judged .good-sheet)
 
   -- the graph that the tables hold is that of the sheet
-  pub opened-graph : graphIn n k m after ≡ graphOf n k (o .records)
+  pub opened-graph : graphIn n k m after ≡ graphOf n k (o .judged .records)
   opened-graph =
-      ap₂ (λ (i : ℕ) (t : SheetTables). graphIn n k i t) (sym (o .count)) (o .holds)
-      ∙ loaded-graph n k (o .records) before (is-sheet .terminals .1) (is-sheet .each)
+      ap₂ (λ (i : ℕ) (t : SheetTables). graphIn n k i t) (sym (o .judged .count)) (o .holds)
+      ∙ loaded-graph n k (o .judged .records) before (is-sheet .terminals .1) (is-sheet .each)
 
   -- what the graph of the sheet has, the graph that the tables hold has
-  as-held : (P : Graph → Type 0) → P (graphOf n k (o .records)) → P (graphIn n k m after)
+  as-held : (P : Graph → Type 0) → P (graphOf n k (o .judged .records)) → P (graphIn n k m after)
   as-held P h = subst P (sym opened-graph) h
 
   pub opened-held : HeldSheet n k m after f
   opened-held = record {
     nodes = is-sheet .nodes;
     terminals = is-sheet .terminals;
-    few-arcs = omega (arith, o .count, is-sheet .few);
-    sound = as-held Sound (sheet-sound n k (o .records) (is-sheet .each));
+    few-arcs = omega (arith, o .judged .count, is-sheet .few);
+    sound = as-held Sound (sheet-sound n k (o .judged .records) (is-sheet .each));
     weights-low = λ e l.
-        as-held (λ (G : Graph). G .weight e ≤ maxWeight) (sheet-weights n k (o .records) (is-sheet .each) e (omega (arith, o .count)));
-    room = as-held (λ (G : Graph). Room G noCost) (sheet-room n k (o .records) (is-sheet .nodes .1) (is-sheet .each));
+        as-held (λ (G : Graph). G .weight e ≤ maxWeight) (sheet-weights n k (o .judged .records) (is-sheet .each) e (omega (arith, o .judged .count)));
+    room = as-held (λ (G : Graph). Room G noCost) (sheet-room n k (o .judged .records) (is-sheet .nodes .1) (is-sheet .each));
     long = still-long o;
   }

@@ -1,3 +1,5 @@
+-- a good sheet by its numbers
+pub mod GoodSheet
 -- the cases of an opening, and what an opened sheet has
 pub mod Cases
 pub mod Opened

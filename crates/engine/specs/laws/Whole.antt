@@ -38,5 +38,5 @@ module _ (s : List ℕ) (t : EngineTables) where
       let same = opened-graph s bytes (t .tables) after (engineFurther t) n k m o in
       (λ i. run answer (engineTables (o .holds i)
       ((costs ∙ ap (λ (G : Graph). over (costTable G noCost) (t .cells)) same) i) (marked i) buffer))
-      ∙ subst (λ (G : Graph). SentBack (planOf G) answer (t .buffer) buffer) same sent .sent (searched n k (o .records) t)
+      ∙ subst (λ (G : Graph). SentBack (planOf G) answer (t .buffer) buffer) same sent .sent (searched n k (o .judged .records) t)
       ∙ sym (ap (given s t) (o .opening))

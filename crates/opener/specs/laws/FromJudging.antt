@@ -16,25 +16,20 @@ use Rattle.records.specs.Arcs.{arcs}
 use Rattle.sheet.specs.laws.Good.{IsSheet, good-is-sheet}
 use Rattle.sheet.specs.laws.Judged.{judgedOf}
 use Rattle.sheet.specs.Verdict.{Verdict, good, bad, verdict}
-use Rattle.records.specs.declared.record.Record.{Record}
 use Rattle.sheet.specs.declared.judge.Judged.the-variants.{Good, Fault}
 use Rattle.loader.specs.LoadedBy.{loadedBy}
 use Rattle.loader.specs.laws.Loading.{Loadable}
 use Rattle.lent_tables.specs.Lengths.{AllLong, areLong}
 use Rattle.lent_tables.specs.laws.LengthLaws.{test-long, long-passes}
 use Rattle.opener.specs.Opening.{sheet, refusal, outcome, loadedAs, loadingOf}
+use Rattle.opener.specs.laws.GoodSheet.{GoodSheet}
 use Rattle.opener.specs.laws.Cases.{opening-bad, opening-short, opening-good}
 use Rattle.lent_tables.specs.declared.FurtherLengths.{FurtherLengths}
 
 -- ---- the judging
 
--- the verdict of a sheet that is judged good
-record JudgedGood (v : Verdict) (n k m : ℕ) : Type 0 where
-  pub records : List Record
-  pub good-sheet : v ≡ good n k records
-  pub count : length (arcs records) ≡ m
-
-judged-good : (v : Verdict) (n k m : ℕ) → Good n k m ≡ judgedOf v → JudgedGood v n k m
+-- a sheet that is judged good, or not
+judged-good : (v : Verdict) (n k m : ℕ) → Good n k m ≡ judgedOf v → GoodSheet v n k m
 judged-good (good n' k' records) n k m e = record { records = records; good-sheet = cc; count = cc }
 judged-good (bad f) n k m e = let z : _≡_ {A = ℕ} 0 1 = cc in absurd (omega arith)
 
@@ -48,7 +43,7 @@ module _ (s : List ℕ) (t : SheetTables) (f : FurtherLengths) where
   sheet-refused fault e = sym (ap (loadedAs t) (opening-bad s t f fault (judged-bad (verdict s) fault e)))
 
   module _ (n k m : ℕ) (e : Good n k m ≡ judgedOf (verdict s)) where
-    judged : JudgedGood (verdict s) n k m
+    judged : GoodSheet (verdict s) n k m
     judged = judged-good (verdict s) n k m e
 
     is-sheet : Bytes s → IsSheet s n k (judged .records)

@@ -3,17 +3,15 @@
 use Prim.Native.Nat.{ℕ}
 use mathlib.Core.Path.{_≡_, refl, sym, ap, _∙_, subst}
 use mathlib.Core.List.{List}
-use lib.ListN.{length}
 use Rattle.answer.specs.Stated.{statedRefusal}
 use Rattle.answer.specs.declared.Refusal.{Refusal}
 use Rattle.lent_tables.specs.SheetTables.{SheetTables, Long, long-same}
-use Rattle.records.specs.Arcs.{arcs}
-use Rattle.sheet.specs.Verdict.{good, verdict}
-use Rattle.records.specs.declared.record.Record.{Record}
+use Rattle.sheet.specs.Verdict.{verdict}
 use Rattle.record_tables.specs.Loaded.{loaded}
 use Rattle.record_tables.specs.laws.Writing.{loaded-lengths}
 use Rattle.lent_tables.specs.Lengths.{AllLong}
 use Rattle.opener.specs.Opening.{SheetOpening, refuses, opens, sheetOpening, Returned, sheet, refusal, returned, Outcome, outcome, loadedAs, loadingOf}
+use Rattle.opener.specs.laws.GoodSheet.{GoodSheet}
 use Rattle.opener.specs.laws.Cases.{by-opening-cases}
 use Rattle.lent_tables.specs.declared.FurtherLengths.{FurtherLengths}
 use Rattle.opener.specs.declared.Loaded.{Loaded}
@@ -21,19 +19,17 @@ use Rattle.opener.specs.declared.Loaded.the-variants.{Sheet, Refused}
 
 -- a sheet that is opened, with n sites, k stations and m legs: it is good, all needed tables are long enough, and the tables hold it
 pub record OpenedSheet (s : List ℕ) (before after : SheetTables) (f : FurtherLengths) (n k m : ℕ) : Type 0 where
-  pub records : List Record
-  pub good-sheet : verdict s ≡ good n k records
-  pub count : length (arcs records) ≡ m
-  pub opening : sheetOpening s before f ≡ opens n k records
+  pub judged : GoodSheet (verdict s) n k m
+  pub opening : sheetOpening s before f ≡ opens n k (judged .records)
   pub long : AllLong n k m before f
-  pub holds : after ≡ loaded n records before
+  pub holds : after ≡ loaded n (judged .records) before
 
 -- after the loading the tables are still long enough
 pub still-long : {s : List ℕ} {before after : SheetTables} {f : FurtherLengths} {n k m : ℕ} → OpenedSheet s before after f n k m → AllLong n k m after f
 still-long {s} {before} {after} {f} {n} {k} {m} o = record {
   tables =
       subst (Long n m) (sym (o .holds))
-      (long-same (loaded-lengths n (o .records) before (subst (λ (i : ℕ). Long n i before) (sym (o .count)) (o .long .tables))) (o .long .tables));
+      (long-same (loaded-lengths n (o .judged .records) before (subst (λ (i : ℕ). Long n i before) (sym (o .judged .count)) (o .long .tables))) (o .long .tables));
   further = o .long .further;
 }
 
@@ -63,7 +59,12 @@ module _ (s : List ℕ) (before after : SheetTables) (f : FurtherLengths) where
           long = λ n k records good-sheet long. record {
             to = λ opening same.
                 told _ _ same
-                (λ held. record { records = records; good-sheet = good-sheet; count = refl; opening = opening; long = long; holds = held });
+                (λ held. record {
+                  judged = record { records = records; good-sheet = good-sheet; count = refl };
+                  opening = opening;
+                  long = long;
+                  holds = held;
+                });
           };
         })
         .to refl e

@@ -25,8 +25,6 @@ use Rattle.graph.specs.Subtrees.{Subtree, total, isTree, isCovering}
 use Rattle.graph.specs.Theorems.{tree-test, covers-test, covers-all}
 use Rattle.records.specs.Arcs.{arcs}
 use Rattle.number_fields.specs.Fields.{Bytes}
-use Rattle.sheet.specs.Verdict.{good, verdict}
-use Rattle.records.specs.declared.record.Record.{Record}
 use Rattle.opener.specs.Opening.{SheetOpening}
 use Rattle.opener.specs.laws.Cases.{by-opening-cases}
 use Rattle.network.specs.Network.{graphOf}
