@@ -23,7 +23,7 @@ use Rattle.enquirer.proofs.cell.Reads as cell
 use Rattle.enquirer.proofs.best_sender.Kinds as sender-kinds
 use Rattle.enquirer.proofs.best_sender.Reads as best-sender
 use Rattle.cases.specs.Meaning.{Finished, CellMeans, SenderMeans, MeansLeast}
-use Rattle.cases.specs.Enquired.{enquired}
+use Rattle.cases.specs.laws.Enquired.{enquired}
 
 -- calls of the enquirer over these cells, for n sites and k stations: each answer means the least total
 pub record CallsMean (n k : ℕ) (G : Graph) (left : List ℕ) : Type 0 where

@@ -4,7 +4,7 @@ use Prim.Native.Nat.{ℕ, _+_, _*_, _^_, _≤_, _<_}
 use mathlib.Core.Path.{_≡_, refl, sym, ap, _∙_, subst}
 use mathlib.Core.Bool.{Bool, true, false, cond, _&&_}
 use mathlib.Core.Option.{some}
-use mathlib.Core.List.{List, [], _++_}
+use mathlib.Core.List.{List, _++_}
 use native.Mathlib.Nat.{zero-add}
 use native.Mathlib.Omega.{arith}
 use lib.Dec.{leb}
@@ -16,7 +16,7 @@ use Rattle.lists.specs.Every.{every-at, every-imp}
 use Rattle.lists.specs.Joined.{joined, joined-every}
 use Rattle.lists.specs.Numbers.{getD-values}
 use Rattle.lists.specs.Over.{over, length-over}
-use Rattle.answer.specs.Stated.{Stated, Family, plan, cell, sender, noSender, refused, ofTables, statedSheet}
+use Rattle.answer.specs.Stated.{Stated, plan, cell, sender, noSender, refused, ofTables, statedSheet}
 use Rattle.answer.specs.laws.OneToOne.{refusal-no-plan}
 use Rattle.answer.specs.declared.Refusal.the-variants.{Sheet}
 use Rattle.answer.specs.declared.SheetFault.{SheetFault}
