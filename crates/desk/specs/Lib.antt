@@ -1,5 +1,5 @@
 -- what the desk program writes, and the texts of document 01's sheets
 pub mod Text
 pub mod Worked
--- laws
+-- laws of the texts
 pub mod laws

@@ -1,10 +1,10 @@
--- `desk::text::desk_text` meets its contract: too many bytes have their own text, and any other input is a sheet.
+-- `desk::desk_text` meets its contract: too many bytes have their own text, and any other input is a sheet.
 -- Assumes nothing.
 use denote.Ref.{now}
 use Rattle.desk.specs.laws.Input.{too-long, short-enough}
 use borrow.Author.Needs.{needs}
-use Rattle.desk.proofs.text.desk_text.Statement.{statement}
-use Rattle.desk.proofs.text.desk_text.Tie as tie
+use Rattle.desk.proofs.desk_text.Statement.{statement}
+use Rattle.desk.proofs.desk_text.Tie as tie
 
 slice-aggregate-put-word : tie.Need-slice-aggregate-put-word
 slice-aggregate-put-word c = search needs

@@ -1,4 +1,4 @@
--- `desk::text::put_sheet` meets its contract: the text of the engine's answer, with the desk's tables, is the text of the sheet.
+-- `desk::put_sheet` meets its contract: the text of the engine's answer, with the desk's tables, is the text of the sheet.
 -- Assumes nothing.
 use native.Mathlib.Omega.{arith}
 use denote.Ref.{now}
@@ -6,8 +6,8 @@ use Rattle.number_fields.specs.laws.FieldLaws.{known-bytes}
 use Rattle.desk_words.specs.laws.Storing.{stored-same}
 use Rattle.desk.specs.laws.Answered.{zeros, zeros-desk, answered}
 use borrow.Author.Needs.{needs}
-use Rattle.desk.proofs.text.put_sheet.Statement.{statement}
-use Rattle.desk.proofs.text.put_sheet.Tie as tie
+use Rattle.desk.proofs.put_sheet.Statement.{statement}
+use Rattle.desk.proofs.put_sheet.Tie as tie
 
 slice-aggregate-plan-sheet : tie.Need-slice-aggregate-plan-sheet
 slice-aggregate-plan-sheet c = search needs
