@@ -1,15 +1,15 @@
--- What document 01, "What is sent back", returns in each case: the values of a plan, of an acceptance or of the enquirer, or the family,
--- the number and the place of a refusal. The promises of all entry points are stated with these definitions.
+-- What document 01, "What is sent back", and document 02 return in each case: the values of a plan, of an acceptance or of the enquirer, or the
+-- family, the number and the place of a refusal. The promises of all entry points are stated with these definitions.
 -- Assumes nothing.
 use Prim.Native.Nat.{ℕ}
-use Rattle.limits.specs.Refusals.{shortSheet, strangeMark, badHead, noSuchSite, noSuchStation, loop, badPrice, tooManyLegs, afterTheEnd, unheard, shortTables, noPlan, shortBuffer, cutPlan, badPlan, unknownNumber, noTree, stationMissed, falseTotal}
+use Rattle.limits.specs.Refusals.{shortSheet, strangeMark, badHead, noSuchSite, noSuchStation, loop, badPrice, tooManyLegs, afterTheEnd, unheard, shortTables, noPlan, shortBuffer, cutPlan, badPlan, unknownNumber, noTree, stationMissed, falseTotal, notASender}
 use Rattle.answer.specs.declared.SheetFault.{SheetFault}
 use Rattle.answer.specs.declared.SheetFault.the-variants.{ShortSheet, StrangeMark, BadHead, NoSuchSite, NoSuchStation, Loop, BadPrice, TooManyLegs, AfterTheEnd, Unheard}
 use Rattle.answer.specs.declared.TableFault.{TableFault}
 use Rattle.answer.specs.declared.TableFault.the-variants.{ShortTables, ShortBuffer}
 use Rattle.answer.specs.declared.SearchFault.{SearchFault}
 use Rattle.answer.specs.declared.PlanFault.{PlanFault}
-use Rattle.answer.specs.declared.PlanFault.the-variants.{CutPlan, BadPlan, UnknownNumber, NoTree, StationMissed, FalseTotal}
+use Rattle.answer.specs.declared.PlanFault.the-variants.{CutPlan, BadPlan, UnknownNumber, NoTree, StationMissed, FalseTotal, NotASender}
 use Rattle.answer.specs.declared.Refusal.{Refusal}
 use Rattle.answer.specs.declared.Refusal.the-variants.{Sheet, Tables, Search, PlanFile}
 use Rattle.answer.specs.declared.Answer.{Answer}
@@ -59,6 +59,7 @@ statedPlanFile (UnknownNumber place) = refused ofPlanFile unknownNumber place
 statedPlanFile NoTree = refused ofPlanFile noTree 0
 statedPlanFile StationMissed = refused ofPlanFile stationMissed 0
 statedPlanFile FalseTotal = refused ofPlanFile falseTotal 0
+statedPlanFile NotASender = refused ofPlanFile notASender 0
 
 -- a refusal's family, number and place
 abbrev pub statedRefusal : Refusal → Stated

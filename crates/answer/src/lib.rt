@@ -37,6 +37,7 @@ pub enum PlanFault {
     NoTree,
     StationMissed,
     FalseTotal,
+    NotASender,
 }
 
 // A refusal, by its cause.
@@ -167,6 +168,10 @@ fn plan_code(fault: PlanFault) -> Code
         },
         PlanFault::FalseTotal => Code {
             number: limits::FALSE_TOTAL,
+            place: 0,
+        },
+        PlanFault::NotASender => Code {
+            number: limits::NOT_A_SENDER,
             place: 0,
         },
     }

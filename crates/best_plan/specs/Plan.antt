@@ -38,7 +38,7 @@ planWith root cost arcs = record { root = root; cost = cost; arcs = arcs }
 abbrev pub planFrom : Graph → ℕ → Plan
 planFrom G root = planWith root (fullCell G root) (layout G (leastCell G noCost) noCost root (full (G .terminals)))
 
--- "every full-set cell is "none"", of the sites that may be a root: in the base, of every site
+-- "every full-set cell is "none"", of the sites that may be a root: the senders
 abbrev pub allNone : Graph → Bool
 allNone G = allTo (λ v. not (G .mayRoot v) || eqb (fullCell G v) noCost) (G .nodes)
 

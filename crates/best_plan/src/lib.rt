@@ -3,7 +3,7 @@ use answer::Answer;
 use answer::Refusal;
 use answer::SearchFault;
 use answer::TableFault;
-use cost_table::cell;
+use cost_table::cheapest::sender_cell;
 use layout::plan::lay_out;
 use layout::root::best_root;
 use limits::Cost;
@@ -53,7 +53,7 @@ fn lay_best(
     buffer: &mut [u8],
 ) -> Answer
     requires { ⌜ (let t = sheetTables (now starts) (now ends) (now weights) (now landings) in
-        FinishedSheet n k arcs t (now cells) × FiniteRoot n k (now cells) root cost) ⌝ }
+        FinishedSheet n k arcs t (now cells) × FiniteRoot n k (now cells) (now landings) root cost) ⌝ }
     ensures { λ r. ⌜ (let t = sheetTables (now (starts .entry)) (now (ends .entry)) (now (weights .entry)) (now (landings .entry)) in
         SentBack (planOf (graphIn n k arcs t)) (stated r) (now (buffer .entry)) (now (buffer .exit))) ⌝ }
 {
@@ -73,7 +73,7 @@ fn lay_best(
     write_best(root, cost as u64, &listed[..count], buffer)
 }
 
-// The plan by the cells: none, where the root's full-set cell is "none".
+// The plan by the cells: none, where every sender's full-set cell is "none".
 pub fn best_plan(
     starts: &[u16],
     ends: &[u16],
@@ -89,8 +89,8 @@ pub fn best_plan(
     ensures { λ r. ⌜ (let t = sheetTables (now (starts .entry)) (now (ends .entry)) (now (weights .entry)) (now (landings .entry)) in
         SentBack (planOf (graphIn n k arcs t)) (stated r) (now (buffer .entry)) (now (buffer .exit))) ⌝ }
 {
-    let root = best_root(cells, n, k);
-    let cost = cell(cells, k, root, Subset::full(k));
+    let root = best_root(cells, landings, n, k);
+    let cost = sender_cell(cells, landings, n, k, root, Subset::full(k));
     if cost == limits::NO_COST {
         return Answer::Refused(Refusal::Search(SearchFault::NoPlan));
     }

@@ -1,6 +1,7 @@
--- The theorem of specs/Enquired.antt, of calls: where a call of `plan_sheet` has planned the sheet, or answered 12 or 13, calls of `enquirer::cell`
--- and `enquirer::best_sender` over the cells that it left, with the sheet's n and k, give the least total and a site that attains it. Of each
--- call only what its contract promises is used (`Learnt`, which the checker makes of the `ensures` for callers).
+-- The theorem of specs/laws/Enquired.antt, of calls: where a call of `plan_sheet` has planned the sheet, or answered 12 or 13, calls of
+-- `enquirer::cell` and `enquirer::best_sender` over the cells that it left, the second with the landing entries that it left as well, with the
+-- sheet's n and k, give the least total and a sender that attains it. Of each call only what its contract promises is used (`Learnt`, which the
+-- checker makes of the `ensures` for callers).
 -- Assumes nothing.
 use Prim.Native.Nat.{ℕ, _^_, _<_}
 use mathlib.Core.Path.{_≡_, sym, subst}
@@ -25,27 +26,30 @@ use Rattle.enquirer.proofs.best_sender.Reads as best-sender
 use Rattle.cases.specs.Meaning.{Finished, CellMeans, SenderMeans, MeansLeast}
 use Rattle.cases.specs.laws.Enquired.{enquired}
 
--- calls of the enquirer over these cells, for n sites and k stations: each answer means the least total
-pub record CallsMean (n k : ℕ) (G : Graph) (left : List ℕ) : Type 0 where
+-- calls of the enquirer over these cells and landing entries, for n sites and k stations: each answer means the least total
+pub record CallsMean (n k : ℕ) (G : Graph) (left entries : List ℕ) : Type 0 where
   pub cell-call : (κs : Lfts 1) (cells : RefT (List ℕ)) → now cells ≡ left → (v w : ℕ) → v < n → w < 2 ^ k
       → (r : Enquiry) (e : AtExit (endedOf 1 cell-kinds.ps cell-kinds.r) κs) → cell.Learnt κs (cells, (n, (k, (v, (w, tt))))) r e
       → CellMeans G v w (statedEnquiry r)
-  pub sender-call : (κs : Lfts 1) (cells : RefT (List ℕ)) → now cells ≡ left → (w : ℕ) → w < 2 ^ k
-      → (r : Enquiry) (e : AtExit (endedOf 1 sender-kinds.ps sender-kinds.r) κs) → best-sender.Learnt κs (cells, (n, (k, (w, tt)))) r e
+  pub sender-call : (κs : Lfts 1) (cells landings : RefT (List ℕ)) → now cells ≡ left → now landings ≡ entries → (w : ℕ) → w < 2 ^ k
+      → (r : Enquiry) (e : AtExit (endedOf 1 sender-kinds.ps sender-kinds.r) κs)
+      → best-sender.Learnt κs (cells, (landings, (n, (k, (w, tt))))) r e
       → SenderMeans G w (statedEnquiry r)
 
-calls : (n k : ℕ) (G : Graph) (left : List ℕ) → MeansLeast n k G left → CallsMean n k G left
-calls n k G left means = record {
+calls : (n k : ℕ) (G : Graph) (left entries : List ℕ) → MeansLeast n k G left entries → CallsMean n k G left entries
+calls n k G left entries means = record {
   cell-call = λ κs cells same v w on small r e learnt.
-      subst (λ (x : List ℕ). MeansLeast n k G x) (sym same) means .cell-means v w on small (statedEnquiry r) learnt;
-  sender-call = λ κs cells same w small r e learnt.
-      subst (λ (x : List ℕ). MeansLeast n k G x) (sym same) means .sender-means w small (statedEnquiry r) learnt;
+      subst (λ (x : List ℕ). MeansLeast n k G x entries) (sym same) means .cell-means v w on small (statedEnquiry r) learnt;
+  sender-call = λ κs cells landings same alike w small r e learnt.
+      subst (MeansLeast n k G (now cells)) (sym alike) (subst (λ (x : List ℕ). MeansLeast n k G x entries) (sym same) means)
+      .sender-means w small (statedEnquiry r) learnt;
 }
 
--- after a call of the engine: its arguments a, of which the first is the sheet, its answer r, and what it left e, of which the sixth is the cells
+-- after a call of the engine: its arguments a, of which the first is the sheet, its answer r, and what it left e, of which the fifth is the landing
+-- entries and the sixth the cells
 pub enquired-calls : (κs : Lfts 8) (a : Dens κs plan-kinds.ps) (r : Answer) (e : AtExit (endedOf 8 plan-kinds.ps plan-kinds.r) κs)
     → plan-sheet.Learnt κs a r e → Bytes (now (a .0)) → Finished (stated r)
-    → GoodWith (now (a .0)) (λ n k records. CallsMean n k (graphOf n k records) (now (e .1 .1 .1 .1 .1 .0)))
+    → GoodWith (now (a .0)) (λ n k records. CallsMean n k (graphOf n k records) (now (e .1 .1 .1 .1 .1 .0)) (now (e .1 .1 .1 .1 .0)))
 enquired-calls κs a r e learnt bytes finished =
     let g = enquired (now (a .0)) bytes _ _ (stated r) (learnt .1 .0) finished in
-    record { n = g .n; k = g .k; records = g .records; good-sheet = g .good-sheet; holds = calls _ _ _ _ (g .holds) }
+    record { n = g .n; k = g .k; records = g .records; good-sheet = g .good-sheet; holds = calls _ _ _ _ _ (g .holds) }

@@ -1,11 +1,13 @@
 -- What the enquirer's answers mean over a finished cost table (document 01, "The cost table"): "Cell v times 2^k + W holds the least total of a
 -- directed subtree with root v that holds a landing of each station in W, or 4,294,967,295 where none exists ("none")"; the best sender is
--- "a site whose cell is least and finite, or "none"". And after which answers of the engine the table is finished.
+-- "a site whose cell is least and finite, or "none"", "judged among trees whose root is a sender" (document 02, W-201). The sites that may be a root
+-- are the senders (`sheet-may-root` in SheetWords.antt of crate mission). And after which answers of the engine the table is finished.
 -- Assumes nothing.
 use Prim.Native.Nat.{ℕ, _^_, _≤_, _<_}
 use mathlib.Core.Path.{_≡_}
 use mathlib.Core.Logic.{_⊎_}
 use mathlib.Core.List.{List}
+use lib.Dec.{T}
 use Rattle.limits.specs.Limits.{noCost}
 use Rattle.limits.specs.Refusals.{noPlan, shortBuffer}
 use Rattle.answer.specs.Stated.{Stated, plan, cell, sender, noSender, refused}
@@ -28,13 +30,14 @@ pub data CellMeans (G : Graph) (v w : ℕ) : Stated → Type 0 where
   least-total : (x : ℕ) → Least G v w x → x < noCost → CellMeans G v w (cell x)
   no-total : NoSubtree G v w → CellMeans G v w (cell noCost)
 
--- the answer is a site that attains the least total of all directed subtrees that hold a landing of each station of w, whatever their root; or
--- it is "none", and there is no such subtree
+-- the answer is a sender that attains the least total of all directed subtrees that hold a landing of each station of w and whose root is a sender;
+-- or it is "none", and no sender is the root of such a subtree
 pub data SenderMeans (G : Graph) (w : ℕ) : Stated → Type 0 where
-  attains : (v x : ℕ) → Least G v w x → ((u : ℕ) (L : List ℕ) → Subtree G u L → Covers G u L w → x ≤ total G u L) → SenderMeans G w (sender v)
-  none-serves : ((u : ℕ) → NoSubtree G u w) → SenderMeans G w noSender
+  attains : (v x : ℕ) → T (G .mayRoot v) → Least G v w x
+      → ((u : ℕ) (L : List ℕ) → T (G .mayRoot u) → Subtree G u L → Covers G u L w → x ≤ total G u L) → SenderMeans G w (sender v)
+  none-serves : ((u : ℕ) → T (G .mayRoot u) → NoSubtree G u w) → SenderMeans G w noSender
 
--- whatever the enquirer answers over these cells, for n sites and k stations, means that, at every site and every subset
-pub record MeansLeast (n k : ℕ) (G : Graph) (cells : List ℕ) : Type 0 where
+-- whatever the enquirer answers over these cells and landing entries, for n sites and k stations, means that, at every site and every subset
+pub record MeansLeast (n k : ℕ) (G : Graph) (cells landings : List ℕ) : Type 0 where
   pub cell-means : (v w : ℕ) → v < n → w < 2 ^ k → (s : Stated) → s ≡ cellAnswer cells n k v w → CellMeans G v w s
-  pub sender-means : (w : ℕ) → w < 2 ^ k → (s : Stated) → SenderAnswer cells n k w s → SenderMeans G w s
+  pub sender-means : (w : ℕ) → w < 2 ^ k → (s : Stated) → SenderAnswer cells landings n k w s → SenderMeans G w s

@@ -1,6 +1,7 @@
 -- Document 01's cases A to L ("The desk program and worked sheets"): "For A to L, one proposition settles the definitions' answers together".
 -- The engine's answers to the sheets A to J and the plan reader's to the files of A, K and L, with what was lent as it is afterwards, by
--- computation.
+-- computation. None of these sheets has an `SR`, so each of their landing entries has the flag, 1,024. The same of the sheets M to Q, which name
+-- senders (document 02, W-201), and of files whose root is no sender.
 -- Assumes nothing.
 use Prim.Native.Nat.{ℕ}
 use mathlib.Core.Path.{_≡_, refl}
@@ -9,7 +10,7 @@ use mathlib.Core.List.{List, [], _∷_}
 use lib.ListN.{length}
 use Rattle.answer.specs.Stated.{plan, refused, ofSheet, ofSearch, ofPlanFile}
 use Rattle.sheet.specs.Verdict.{Verdict, good, bad, verdict, readFor}
-use Rattle.sheet.specs.Worked.{sheetA, sheetB, sheetC, sheetD, sheetE, sheetF, sheetG, sheetH, sheetI, sheetJ}
+use Rattle.sheet.specs.Worked.{sheetA, sheetB, sheetC, sheetD, sheetE, sheetF, sheetG, sheetH, sheetI, sheetJ, sheetM, sheetN, sheetO, sheetP, sheetQ}
 use Rattle.lent_tables.specs.SheetTables.{sheetTables}
 use Rattle.record_tables.specs.Loaded.{loaded}
 use Rattle.network.specs.Network.{graphOf}
@@ -17,7 +18,7 @@ use Rattle.mission.specs.Runs.{ReaderTables, readerTables, EngineTables, engine
 use Rattle.file_tests.specs.FileFaults.{fileFault}
 use Rattle.plan_tests.specs.PlanFaults.{treeFault}
 use Rattle.plan_reader.specs.Reader.{readingOf}
-use Rattle.plan_reader.specs.Worked.{planA, planK, planL}
+use Rattle.cases.specs.Files.{planA, planK, planL, missed}
 use Rattle.best_plan.specs.Plan.{Plan, planOf}
 use Rattle.engine.specs.Engine.{planningOf}
 
@@ -27,7 +28,7 @@ use Rattle.engine.specs.Engine.{planningOf}
 abbrev pub lent : EngineTables
 lent =
     engineTables
-    (sheetTables (71 ∷ 71 ∷ 71 ∷ 71 ∷ 71 ∷ 71 ∷ []) (72 ∷ 72 ∷ 72 ∷ 72 ∷ 72 ∷ 72 ∷ []) (73 ∷ 73 ∷ 73 ∷ 73 ∷ 73 ∷ 73 ∷ []) (74 ∷ 74 ∷ 74 ∷ 74 ∷ 74 ∷ []))
+    (sheetTables (71 ∷ 71 ∷ 71 ∷ 71 ∷ 71 ∷ 71 ∷ []) (72 ∷ 72 ∷ 72 ∷ 72 ∷ 72 ∷ 72 ∷ []) (73 ∷ 73 ∷ 73 ∷ 73 ∷ 73 ∷ 73 ∷ []) (1_098 ∷ 1_098 ∷ 1_098 ∷ 1_098 ∷ 1_098 ∷ []))
     (
     75 ∷ 75 ∷ 75 ∷ 75 ∷ 75 ∷ 75 ∷ 75 ∷ 75 ∷
     75 ∷ 75 ∷ 75 ∷ 75 ∷ 75 ∷ 75 ∷ 75 ∷ 75 ∷
@@ -46,12 +47,22 @@ lent =
 abbrev pub lentToReader : ReaderTables
 lentToReader = readerTables (lent .tables) (lent .marks)
 
--- these with A's five legs and the stations of its four sites, and with marks
-abbrev pub afterA : List ℕ → ReaderTables
-afterA marks =
+-- these with A's five legs, and with these landing entries and marks
+abbrev pub withLegsOfA : (landings marks : List ℕ) → ReaderTables
+withLegsOfA landings marks =
     readerTables
-    (sheetTables (0 ∷ 1 ∷ 1 ∷ 0 ∷ 0 ∷ 71 ∷ []) (1 ∷ 2 ∷ 3 ∷ 2 ∷ 3 ∷ 72 ∷ []) (4 ∷ 3 ∷ 3 ∷ 5 ∷ 6 ∷ 73 ∷ []) (4 ∷ 0 ∷ 1 ∷ 2 ∷ 74 ∷ []))
+    (sheetTables (0 ∷ 1 ∷ 1 ∷ 0 ∷ 0 ∷ 71 ∷ []) (1 ∷ 2 ∷ 3 ∷ 2 ∷ 3 ∷ 72 ∷ []) (4 ∷ 3 ∷ 3 ∷ 5 ∷ 6 ∷ 73 ∷ []) landings)
     marks
+
+-- the landing entries of its four sites: all are senders; in M site 1 is, and in N the sites 0 and 1
+abbrev pub afterA : List ℕ → ReaderTables
+afterA marks = withLegsOfA (1_028 ∷ 1_024 ∷ 1_025 ∷ 1_026 ∷ 1_098 ∷ []) marks
+
+abbrev pub afterM : List ℕ → ReaderTables
+afterM marks = withLegsOfA (4 ∷ 1_024 ∷ 1 ∷ 2 ∷ 1_098 ∷ []) marks
+
+abbrev pub afterN : List ℕ → ReaderTables
+afterN marks = withLegsOfA (1_028 ∷ 1_024 ∷ 1 ∷ 2 ∷ 1_098 ∷ []) marks
 
 -- the legs of a sheet's plan, in the order in which they are added
 abbrev legsIn : Option Plan → Option (List ℕ)
@@ -71,7 +82,7 @@ pub settled :
     × (planningOf sheetA lent
     ≡ run (plan 0 10 3)
     (engineTables
-    (sheetTables (0 ∷ 1 ∷ 1 ∷ 0 ∷ 0 ∷ 71 ∷ []) (1 ∷ 2 ∷ 3 ∷ 2 ∷ 3 ∷ 72 ∷ []) (4 ∷ 3 ∷ 3 ∷ 5 ∷ 6 ∷ 73 ∷ []) (4 ∷ 0 ∷ 1 ∷ 2 ∷ 74 ∷ []))
+    (sheetTables (0 ∷ 1 ∷ 1 ∷ 0 ∷ 0 ∷ 71 ∷ []) (1 ∷ 2 ∷ 3 ∷ 2 ∷ 3 ∷ 72 ∷ []) (4 ∷ 3 ∷ 3 ∷ 5 ∷ 6 ∷ 73 ∷ []) (1_028 ∷ 1_024 ∷ 1_025 ∷ 1_026 ∷ 1_098 ∷ []))
     (
     0 ∷ 5 ∷ 6 ∷ 10 ∷ 0 ∷ 5 ∷ 6 ∷ 10 ∷
     0 ∷ 3 ∷ 3 ∷ 6 ∷ 4_294_967_295 ∷ 4_294_967_295 ∷ 4_294_967_295 ∷ 4_294_967_295 ∷
@@ -90,7 +101,7 @@ pub settled :
     × (planningOf sheetB lent
     ≡ run (plan 0 0 0)
     (engineTables
-    (sheetTables (71 ∷ 71 ∷ 71 ∷ 71 ∷ 71 ∷ 71 ∷ []) (72 ∷ 72 ∷ 72 ∷ 72 ∷ 72 ∷ 72 ∷ []) (73 ∷ 73 ∷ 73 ∷ 73 ∷ 73 ∷ 73 ∷ []) (1 ∷ 74 ∷ 74 ∷ 74 ∷ 74 ∷ []))
+    (sheetTables (71 ∷ 71 ∷ 71 ∷ 71 ∷ 71 ∷ 71 ∷ []) (72 ∷ 72 ∷ 72 ∷ 72 ∷ 72 ∷ 72 ∷ []) (73 ∷ 73 ∷ 73 ∷ 73 ∷ 73 ∷ 73 ∷ []) (1_025 ∷ 1_098 ∷ 1_098 ∷ 1_098 ∷ 1_098 ∷ []))
     (
     0 ∷ 0 ∷
     75 ∷ 75 ∷ 75 ∷ 75 ∷ 75 ∷ 75 ∷ 75 ∷ 75 ∷
@@ -109,7 +120,7 @@ pub settled :
     × (planningOf sheetC lent
     ≡ run (plan 0 4 1)
     (engineTables
-    (sheetTables (0 ∷ 0 ∷ 71 ∷ 71 ∷ 71 ∷ 71 ∷ []) (1 ∷ 2 ∷ 72 ∷ 72 ∷ 72 ∷ 72 ∷ []) (9 ∷ 4 ∷ 73 ∷ 73 ∷ 73 ∷ 73 ∷ []) (1 ∷ 2 ∷ 2 ∷ 74 ∷ 74 ∷ []))
+    (sheetTables (0 ∷ 0 ∷ 71 ∷ 71 ∷ 71 ∷ 71 ∷ []) (1 ∷ 2 ∷ 72 ∷ 72 ∷ 72 ∷ 72 ∷ []) (9 ∷ 4 ∷ 73 ∷ 73 ∷ 73 ∷ 73 ∷ []) (1_025 ∷ 1_026 ∷ 1_026 ∷ 1_098 ∷ 1_098 ∷ []))
     (
     0 ∷ 0 ∷ 4 ∷ 4 ∷
     0 ∷ 4_294_967_295 ∷ 0 ∷ 4_294_967_295 ∷
@@ -129,7 +140,7 @@ pub settled :
     × (planningOf sheetD lent
     ≡ run (plan 0 7 1)
     (engineTables
-    (sheetTables (0 ∷ 1 ∷ 71 ∷ 71 ∷ 71 ∷ 71 ∷ []) (1 ∷ 0 ∷ 72 ∷ 72 ∷ 72 ∷ 72 ∷ []) (7 ∷ 7 ∷ 73 ∷ 73 ∷ 73 ∷ 73 ∷ []) (1 ∷ 2 ∷ 74 ∷ 74 ∷ 74 ∷ []))
+    (sheetTables (0 ∷ 1 ∷ 71 ∷ 71 ∷ 71 ∷ 71 ∷ []) (1 ∷ 0 ∷ 72 ∷ 72 ∷ 72 ∷ 72 ∷ []) (7 ∷ 7 ∷ 73 ∷ 73 ∷ 73 ∷ 73 ∷ []) (1_025 ∷ 1_026 ∷ 1_098 ∷ 1_098 ∷ 1_098 ∷ []))
     (
     0 ∷ 0 ∷ 7 ∷ 7 ∷
     0 ∷ 7 ∷ 0 ∷ 7 ∷
@@ -149,7 +160,7 @@ pub settled :
     × (planningOf sheetE lent
     ≡ run (refused ofSearch 12 0)
     (engineTables
-    (sheetTables (71 ∷ 71 ∷ 71 ∷ 71 ∷ 71 ∷ 71 ∷ []) (72 ∷ 72 ∷ 72 ∷ 72 ∷ 72 ∷ 72 ∷ []) (73 ∷ 73 ∷ 73 ∷ 73 ∷ 73 ∷ 73 ∷ []) (1 ∷ 2 ∷ 74 ∷ 74 ∷ 74 ∷ []))
+    (sheetTables (71 ∷ 71 ∷ 71 ∷ 71 ∷ 71 ∷ 71 ∷ []) (72 ∷ 72 ∷ 72 ∷ 72 ∷ 72 ∷ 72 ∷ []) (73 ∷ 73 ∷ 73 ∷ 73 ∷ 73 ∷ 73 ∷ []) (1_025 ∷ 1_026 ∷ 1_098 ∷ 1_098 ∷ 1_098 ∷ []))
     (
     0 ∷ 0 ∷ 4_294_967_295 ∷ 4_294_967_295 ∷
     0 ∷ 4_294_967_295 ∷ 0 ∷ 4_294_967_295 ∷
@@ -170,7 +181,7 @@ pub settled :
     × (planningOf sheetG lent
     ≡ run (plan 0 1_000_000 1)
     (engineTables
-    (sheetTables (0 ∷ 1 ∷ 71 ∷ 71 ∷ 71 ∷ 71 ∷ []) (1 ∷ 0 ∷ 72 ∷ 72 ∷ 72 ∷ 72 ∷ []) (1_000_000 ∷ 1_000_000 ∷ 73 ∷ 73 ∷ 73 ∷ 73 ∷ []) (1 ∷ 2 ∷ 74 ∷ 74 ∷ 74 ∷ []))
+    (sheetTables (0 ∷ 1 ∷ 71 ∷ 71 ∷ 71 ∷ 71 ∷ []) (1 ∷ 0 ∷ 72 ∷ 72 ∷ 72 ∷ 72 ∷ []) (1_000_000 ∷ 1_000_000 ∷ 73 ∷ 73 ∷ 73 ∷ 73 ∷ []) (1_025 ∷ 1_026 ∷ 1_098 ∷ 1_098 ∷ 1_098 ∷ []))
     (
     0 ∷ 0 ∷ 1_000_000 ∷ 1_000_000 ∷
     0 ∷ 1_000_000 ∷ 0 ∷ 1_000_000 ∷
@@ -196,3 +207,114 @@ pub settled :
     × (readingOf sheetA planL lentToReader ≡ run (refused ofPlanFile 19 0) (afterA (1 ∷ 1 ∷ 1 ∷ 1 ∷ 76 ∷ [])))
 unfolding verdict readFor loaded planOf fileFault treeFault
 settled = (refl, refl, refl, refl, refl, refl, refl, refl, refl, refl, refl, refl, refl, refl, refl, refl, refl, refl, refl, refl)
+
+-- ---- licensed senders
+
+pub senders-settled :
+    -- M: A with `SR` 1: "no plan" is judged among trees whose root is a sender, so 12; the cells are A's
+    (planningOf sheetM lent
+    ≡ run (refused ofSearch 12 0)
+    (engineTables
+    (sheetTables (0 ∷ 1 ∷ 1 ∷ 0 ∷ 0 ∷ 71 ∷ []) (1 ∷ 2 ∷ 3 ∷ 2 ∷ 3 ∷ 72 ∷ []) (4 ∷ 3 ∷ 3 ∷ 5 ∷ 6 ∷ 73 ∷ []) (4 ∷ 1_024 ∷ 1 ∷ 2 ∷ 1_098 ∷ []))
+    (
+    0 ∷ 5 ∷ 6 ∷ 10 ∷ 0 ∷ 5 ∷ 6 ∷ 10 ∷
+    0 ∷ 3 ∷ 3 ∷ 6 ∷ 4_294_967_295 ∷ 4_294_967_295 ∷ 4_294_967_295 ∷ 4_294_967_295 ∷
+    0 ∷ 0 ∷ 4_294_967_295 ∷ 4_294_967_295 ∷ 4_294_967_295 ∷ 4_294_967_295 ∷ 4_294_967_295 ∷ 4_294_967_295 ∷
+    0 ∷ 4_294_967_295 ∷ 0 ∷ 4_294_967_295 ∷ 4_294_967_295 ∷ 4_294_967_295 ∷ 4_294_967_295 ∷ 4_294_967_295 ∷
+    75 ∷ []
+    )
+    (1 ∷ 1 ∷ 1 ∷ 1 ∷ 76 ∷ [])
+    (
+    0xEE ∷ 0xEE ∷ 0xEE ∷ 0xEE ∷ 0xEE ∷ 0xEE ∷ 0xEE ∷ 0xEE ∷ 0xEE ∷ 0xEE ∷ 0xEE ∷ 0xEE ∷
+    0xEE ∷ 0xEE ∷ 0xEE ∷ 0xEE ∷ 0xEE ∷ 0xEE ∷ 0xEE ∷ 0xEE ∷ 0xEE ∷ 0xEE ∷ 0xEE ∷ 0xEE ∷ []
+    )))
+    × (legs (verdict sheetM) ≡ none)
+    -- N: A with `SR` 0 and `SR` 1, repeated: A's plan, and a repeat counts once
+    × (planningOf sheetN lent
+    ≡ run (plan 0 10 3)
+    (engineTables
+    (sheetTables (0 ∷ 1 ∷ 1 ∷ 0 ∷ 0 ∷ 71 ∷ []) (1 ∷ 2 ∷ 3 ∷ 2 ∷ 3 ∷ 72 ∷ []) (4 ∷ 3 ∷ 3 ∷ 5 ∷ 6 ∷ 73 ∷ []) (1_028 ∷ 1_024 ∷ 1 ∷ 2 ∷ 1_098 ∷ []))
+    (
+    0 ∷ 5 ∷ 6 ∷ 10 ∷ 0 ∷ 5 ∷ 6 ∷ 10 ∷
+    0 ∷ 3 ∷ 3 ∷ 6 ∷ 4_294_967_295 ∷ 4_294_967_295 ∷ 4_294_967_295 ∷ 4_294_967_295 ∷
+    0 ∷ 0 ∷ 4_294_967_295 ∷ 4_294_967_295 ∷ 4_294_967_295 ∷ 4_294_967_295 ∷ 4_294_967_295 ∷ 4_294_967_295 ∷
+    0 ∷ 4_294_967_295 ∷ 0 ∷ 4_294_967_295 ∷ 4_294_967_295 ∷ 4_294_967_295 ∷ 4_294_967_295 ∷ 4_294_967_295 ∷
+    75 ∷ []
+    )
+    (1 ∷ 1 ∷ 1 ∷ 1 ∷ 76 ∷ [])
+    (
+    0x50 ∷ 0x4E ∷ 0x00 ∷ 0x00 ∷ 0x00 ∷ 0x00 ∷ 0x00 ∷ 0x0A ∷ 0x00 ∷ 0x03 ∷
+    0x4C ∷ 0x47 ∷ 0x00 ∷ 0x00 ∷ 0x4C ∷ 0x47 ∷ 0x00 ∷ 0x01 ∷ 0x4C ∷ 0x47 ∷ 0x00 ∷ 0x02 ∷
+    0xEE ∷ 0xEE ∷ []
+    )))
+    × (legs (verdict sheetN) ≡ some (0 ∷ 1 ∷ 2 ∷ []))
+    -- O: the lowest of two senders that cost 9; site 0, which is no sender, costs 4
+    × (planningOf sheetO lent
+    ≡ run (plan 1 9 2)
+    (engineTables
+    (sheetTables (2 ∷ 1 ∷ 0 ∷ 71 ∷ 71 ∷ 71 ∷ []) (0 ∷ 0 ∷ 3 ∷ 72 ∷ 72 ∷ 72 ∷ []) (5 ∷ 5 ∷ 4 ∷ 73 ∷ 73 ∷ 73 ∷ []) (1 ∷ 1_024 ∷ 1_024 ∷ 2 ∷ 1_098 ∷ []))
+    (
+    0 ∷ 0 ∷ 4 ∷ 4 ∷
+    0 ∷ 5 ∷ 9 ∷ 9 ∷
+    0 ∷ 5 ∷ 9 ∷ 9 ∷
+    0 ∷ 4_294_967_295 ∷ 0 ∷ 4_294_967_295 ∷
+    75 ∷ 75 ∷ 75 ∷ 75 ∷ 75 ∷ 75 ∷ 75 ∷ 75 ∷
+    75 ∷ 75 ∷ 75 ∷ 75 ∷ 75 ∷ 75 ∷ 75 ∷ 75 ∷
+    75 ∷ []
+    )
+    (1 ∷ 1 ∷ 1 ∷ 1 ∷ 76 ∷ [])
+    (
+    0x50 ∷ 0x4E ∷ 0x00 ∷ 0x01 ∷ 0x00 ∷ 0x00 ∷ 0x00 ∷ 0x09 ∷ 0x00 ∷ 0x02 ∷
+    0x4C ∷ 0x47 ∷ 0x00 ∷ 0x01 ∷ 0x4C ∷ 0x47 ∷ 0x00 ∷ 0x02 ∷
+    0xEE ∷ 0xEE ∷ 0xEE ∷ 0xEE ∷ 0xEE ∷ 0xEE ∷ []
+    )))
+    × (legs (verdict sheetO) ≡ some (1 ∷ 2 ∷ []))
+    -- P: C with `SR` 1 and `SR` 2: 12 for want of a licence at site 0
+    × (planningOf sheetP lent
+    ≡ run (refused ofSearch 12 0)
+    (engineTables
+    (sheetTables (0 ∷ 0 ∷ 71 ∷ 71 ∷ 71 ∷ 71 ∷ []) (1 ∷ 2 ∷ 72 ∷ 72 ∷ 72 ∷ 72 ∷ []) (9 ∷ 4 ∷ 73 ∷ 73 ∷ 73 ∷ 73 ∷ []) (1 ∷ 1_026 ∷ 1_026 ∷ 1_098 ∷ 1_098 ∷ []))
+    (
+    0 ∷ 0 ∷ 4 ∷ 4 ∷
+    0 ∷ 4_294_967_295 ∷ 0 ∷ 4_294_967_295 ∷
+    0 ∷ 4_294_967_295 ∷ 0 ∷ 4_294_967_295 ∷
+    75 ∷ 75 ∷ 75 ∷ 75 ∷ 75 ∷ 75 ∷ 75 ∷ 75 ∷
+    75 ∷ 75 ∷ 75 ∷ 75 ∷ 75 ∷ 75 ∷ 75 ∷ 75 ∷
+    75 ∷ 75 ∷ 75 ∷ 75 ∷ 75 ∷ []
+    )
+    (1 ∷ 1 ∷ 1 ∷ 76 ∷ 76 ∷ [])
+    (
+    0xEE ∷ 0xEE ∷ 0xEE ∷ 0xEE ∷ 0xEE ∷ 0xEE ∷ 0xEE ∷ 0xEE ∷ 0xEE ∷ 0xEE ∷ 0xEE ∷ 0xEE ∷
+    0xEE ∷ 0xEE ∷ 0xEE ∷ 0xEE ∷ 0xEE ∷ 0xEE ∷ 0xEE ∷ 0xEE ∷ 0xEE ∷ 0xEE ∷ 0xEE ∷ 0xEE ∷ []
+    )))
+    × (legs (verdict sheetP) ≡ none)
+    -- Q: D with `SR` 1: root 1 and the leg back
+    × (planningOf sheetQ lent
+    ≡ run (plan 1 7 1)
+    (engineTables
+    (sheetTables (0 ∷ 1 ∷ 71 ∷ 71 ∷ 71 ∷ 71 ∷ []) (1 ∷ 0 ∷ 72 ∷ 72 ∷ 72 ∷ 72 ∷ []) (7 ∷ 7 ∷ 73 ∷ 73 ∷ 73 ∷ 73 ∷ []) (1 ∷ 1_026 ∷ 1_098 ∷ 1_098 ∷ 1_098 ∷ []))
+    (
+    0 ∷ 0 ∷ 7 ∷ 7 ∷
+    0 ∷ 7 ∷ 0 ∷ 7 ∷
+    75 ∷ 75 ∷ 75 ∷ 75 ∷ 75 ∷ 75 ∷ 75 ∷ 75 ∷
+    75 ∷ 75 ∷ 75 ∷ 75 ∷ 75 ∷ 75 ∷ 75 ∷ 75 ∷
+    75 ∷ 75 ∷ 75 ∷ 75 ∷ 75 ∷ 75 ∷ 75 ∷ 75 ∷
+    75 ∷ []
+    )
+    (1 ∷ 1 ∷ 76 ∷ 76 ∷ 76 ∷ [])
+    (
+    0x50 ∷ 0x4E ∷ 0x00 ∷ 0x01 ∷ 0x00 ∷ 0x00 ∷ 0x00 ∷ 0x07 ∷ 0x00 ∷ 0x01 ∷
+    0x4C ∷ 0x47 ∷ 0x00 ∷ 0x01 ∷
+    0xEE ∷ 0xEE ∷ 0xEE ∷ 0xEE ∷ 0xEE ∷ 0xEE ∷ 0xEE ∷ 0xEE ∷ 0xEE ∷ 0xEE ∷ []
+    )))
+    × (legs (verdict sheetQ) ≡ some (1 ∷ []))
+    -- A's own file is accepted against N, where its root is a sender
+    × (readingOf sheetN planA lentToReader ≡ run (plan 0 10 3) (afterN (1 ∷ 1 ∷ 1 ∷ 1 ∷ 76 ∷ [])))
+    -- against M its root is no sender: 20; K, which is no tree as well: 17; a file that misses a station as well: 20, before 18; L, whose total is
+    -- false as well: 20
+    × (readingOf sheetM planA lentToReader ≡ run (refused ofPlanFile 20 0) (afterM (1 ∷ 1 ∷ 1 ∷ 1 ∷ 76 ∷ [])))
+    × (readingOf sheetM planK lentToReader ≡ run (refused ofPlanFile 17 0) (afterM (1 ∷ 1 ∷ 1 ∷ 1 ∷ 76 ∷ [])))
+    × (readingOf sheetM missed lentToReader ≡ run (refused ofPlanFile 20 0) (afterM (1 ∷ 1 ∷ 1 ∷ 0 ∷ 76 ∷ [])))
+    × (readingOf sheetM planL lentToReader ≡ run (refused ofPlanFile 20 0) (afterM (1 ∷ 1 ∷ 1 ∷ 1 ∷ 76 ∷ [])))
+unfolding verdict readFor loaded planOf fileFault treeFault
+senders-settled = (refl, refl, refl, refl, refl, refl, refl, refl, refl, refl, refl, refl, refl, refl, refl)

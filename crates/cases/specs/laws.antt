@@ -1,4 +1,4 @@
 -- the engines and readers that the points shut out
 pub mod ShutOut
--- what the enquirer's answers mean over the table that the engine leaves
+-- what the enquirer's answers mean over the tables that the engine leaves
 pub mod Enquired

@@ -1,1 +1,2 @@
-// No code: document 01's cases A to L, the engines that the points shut out, and what the enquirer's answers mean, in specs/.
+// No code: document 01's cases A to L, plan files, and sheets that name senders; the engines that the points shut out; and what the enquirer's
+// answers mean. See specs/.

@@ -17,7 +17,7 @@ use Rattle.best_plan.specs.Plan.{planOf, sentBack}
 -- ---- the tables
 
 -- the tables after a plan: "the first entries of these hold the legs in order, each site's set of stations, the costs, and 1 in each mark;
--- later entries are untouched"; the plan buffer as it was
+-- later entries are untouched", with the flags of the senders (document 02, W-201); the plan buffer as it was
 abbrev pub searched : (n k : ℕ) → List Record → EngineTables → EngineTables
 searched n k records t = record {
   tables = loaded n records (t .tables);

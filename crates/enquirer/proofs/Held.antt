@@ -1,5 +1,5 @@
--- An `Enquirer` that a method is passed, and a slice of cells: their machine values, and what they own. The struct is Copy, so that what it owns
--- is had twice: one copy is kept whole for the exit, and of the other what the slice owns goes to the callee.
+-- An `Enquirer` that a method is passed, a slice of cells and a slice of landing sets: their machine values, and what they own. The struct is
+-- Copy, so that what it owns is had twice: one copy is kept whole for the exit, and of the other what the slice owns goes to the callee.
 -- Assumes nothing.
 use mathlib.Core.Path.{_≡_}
 use Prim.Native.Nat.{ℕ}
@@ -15,7 +15,7 @@ use ghost.Atoms.{Atoms, sem}
 use contract.Lifetimes.{Lfts}
 use types.Kit.{Given, ‵, _⊛_, given, _$_, _∵_, !, qed, move, drop, use1, split, learn, frame, done}
 use denote.RattleType.{RattleType}
-use denote.Builtin.{u32}
+use denote.Builtin.{u16, u32}
 use denote.Ref.{RefT}
 use denote.Signature.{namedLft}
 use denote.Slice.{sliceVal, ShrSlice}
@@ -39,12 +39,16 @@ held d = T′.lowered d
 abbrev pub Owned : Lft → Enquirer → Fml
 Owned κ d = Held (κ, tt) .own d (held d ∷ [])
 
--- the machine value of a slice of numbers of four bytes, and what it owns
+-- the machine value of a slice of numbers, and what one of numbers of four bytes owns
 abbrev pub slice-of : RefT (List ℕ) → Val
 slice-of s = sliceVal (s .ptr) (length (s .now))
 
 abbrev pub OwnedSlice : Lft → RefT (List ℕ) → Fml
 OwnedSlice κ s = ShrSlice (named 0) κ u32 .own s (slice-of s ∷ [])
+
+-- and what a slice of numbers of two bytes owns
+abbrev pub OwnedEntries : Lft → RefT (List ℕ) → Fml
+OwnedEntries κ s = ShrSlice (named 0) κ u16 .own s (slice-of s ∷ [])
 
 module _ {M : Type 1} (𝓤 : URA M) (H : Heap 𝓤) (A : Atoms 𝓤) (W : Given 𝓤 H A) (κ : Lft) (d : Enquirer) where
   abbrev D : Declared

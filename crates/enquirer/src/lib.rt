@@ -1,6 +1,6 @@
 // The enquirer over a finished cost table (document 01, "The cost table"): it keeps the table itself, with n and k beside it. It gives the cell
-// for a site and a subset, and the best sender of a subset. Its methods take it apart; `cell` and `best_sender` are for callers who
-// have the table and the numbers. Any numbers may be asked, with any table. Nothing is written.
+// for a site and a subset, and, lent the landing sets too, the best sender of a subset. Its methods take it apart; `cell` and `best_sender` are
+// for callers who have the table and the numbers. Any numbers may be asked, with any table. Nothing is written.
 use answer::Enquiry;
 use limits::Cost;
 use questions::cell_question::cell_in;
@@ -31,11 +31,11 @@ impl<'a> Enquirer<'a> {
         cell_in(self.cells, self.n, self.k, v, w)
     }
 
-    // The best sender of the subset w.
-    pub fn best_sender(self, w: u32) -> Enquiry
-        ensures { λ r. ⌜ SenderAnswer (now (self .entry .cells)) (self .entry .n) (self .entry .k) w (statedEnquiry r) ⌝ }
+    // The best sender of the subset w, by these landing sets.
+    pub fn best_sender(self, landings: &'a [u16], w: u32) -> Enquiry
+        ensures { λ r. ⌜ SenderAnswer (now (self .entry .cells)) (now (landings .entry)) (self .entry .n) (self .entry .k) w (statedEnquiry r) ⌝ }
     {
-        best_sender_in(self.cells, self.n, self.k, w)
+        best_sender_in(self.cells, landings, self.n, self.k, w)
     }
 }
 
@@ -46,9 +46,9 @@ pub fn cell(cells: &[Cost], n: u32, k: u32, v: u32, w: u32) -> Enquiry
     Enquirer::new(cells, n, k).cell(v, w)
 }
 
-// The best sender of the subset w, of a table for n sites and k stations.
-pub fn best_sender(cells: &[Cost], n: u32, k: u32, w: u32) -> Enquiry
-    ensures { λ r. ⌜ SenderAnswer (now (cells .entry)) n k w (statedEnquiry r) ⌝ }
+// The best sender of the subset w, of a table for n sites and k stations, by these landing sets.
+pub fn best_sender<'a>(cells: &'a [Cost], landings: &'a [u16], n: u32, k: u32, w: u32) -> Enquiry
+    ensures { λ r. ⌜ SenderAnswer (now (cells .entry)) (now (landings .entry)) n k w (statedEnquiry r) ⌝ }
 {
-    Enquirer::new(cells, n, k).best_sender(w)
+    Enquirer::new(cells, n, k).best_sender(landings, w)
 }

@@ -1,5 +1,5 @@
 -- The answer to a plan file against a graph, and the marks afterwards (document 01, "What is sent back"): the file's faults by itself, 14 to 16,
--- come before those against the sheet, 17 to 19.
+-- come before those against the sheet, 17, 20, 18 and 19.
 -- Assumes nothing.
 use Prim.Native.Nat.{ℕ}
 use mathlib.Core.Option.{Option, none, some}

@@ -38,7 +38,7 @@ fn read_arcs(
     requires { ⌜ (let t = sheetTables (now starts) (now ends) (now weights) (now landings) in ArcsReady (now file) root count k t (now marks)) ⌝ }
     ensures { λ r. ⌜ (let t = sheetTables (now (starts .entry)) (now (ends .entry)) (now (weights .entry)) (now (landings .entry)) in
         ((now (marks .exit) ≡ marksOf (linkGraph (length (now (marks .entry))) (t .starts) (t .ends)) (arcsTo (now (file .entry)) count) root)
-        × (stated r ≡ answeredAs (judgedFault (now (file .entry)) total count k (t .weights) (t .landings) (now (marks .exit))) root total count))) ⌝ }
+        × (stated r ≡ answeredAs (judgedFault (now (file .entry)) root total count k (t .weights) (t .landings) (now (marks .exit))) root total count))) ⌝ }
 {
     reach(file, count, root, starts, ends, marks);
     test_plan(file, root, total, count, k, weights, landings, marks)

@@ -1,12 +1,11 @@
 -- The graph that lent tables hold for n nodes, k terminals and m arcs: the first m entries of the tables of starts, ends and weights, and what
--- the first n landing entries say. Past them every value is 0. No node is charged, and every node may be a root.
+-- the first n landing entries say: the terminals, and whether the node may be a root. Past them every value is 0. No node is charged.
 -- Assumes nothing.
 use Prim.Native.Nat.{ℕ, _<_}
 use mathlib.Core.Path.{_≡_, ap}
-use mathlib.Core.Bool.{true}
 use lib.ListN.{getD, take}
 use lib.Seq.{getD-take}
-use Rattle.subset.specs.Sets.{terminalsIn}
+use Rattle.landing_entries.specs.Entries.{terminalsIn, senderIn}
 use Rattle.lent_tables.specs.SheetTables.{SheetTables}
 use Rattle.graph.specs.Graph.{Graph}
 
@@ -20,7 +19,7 @@ graphIn n k m t = record {
   weight = λ e. getD (take m (t .weights)) e 0;
   landings = λ v. terminalsIn (getD (take n (t .landings)) v 0);
   charge = λ v. 0;
-  mayRoot = λ v. true;
+  mayRoot = λ v. senderIn (getD (take n (t .landings)) v 0);
 }
 
 -- ---- as a program reads it
@@ -38,3 +37,6 @@ module _ (n k m : ℕ) (t : SheetTables) where
 
   pub landings-in : (v : ℕ) → v < n → graphIn n k m t .landings v ≡ terminalsIn (getD (t .landings) v 0)
   landings-in v h = ap terminalsIn (getD-take n (t .landings) v 0 h)
+
+  pub may-root-in : (v : ℕ) → v < n → graphIn n k m t .mayRoot v ≡ senderIn (getD (t .landings) v 0)
+  may-root-in v h = ap senderIn (getD-take n (t .landings) v 0 h)

@@ -9,7 +9,8 @@ use lib.Count.{ones}
 use lib.Dec.{eqb, ltb}
 use lib.ListN.{length, getD}
 use Rattle.limits.specs.Limits.{maxTerminals, noCost}
-use Rattle.subset.specs.Sets.{isPart, terminalsIn}
+use Rattle.subset.specs.Sets.{isPart}
+use Rattle.landing_entries.specs.Entries.{terminalsIn}
 use Rattle.lent_tables.specs.SheetTables.{SheetTables, Long}
 use Rattle.graph.specs.HeldGraph.{graphIn}
 use Rattle.graph.specs.Layout.{fits}

@@ -1,8 +1,8 @@
 // The tests of one step of the layout at a site v with a set w: whether nothing is added, and which leg fits.
 use cost_table::cell;
+use landing_entries::terminals_in;
 use limits::Cost;
 use subset::Subset;
-use subset::terminals_in;
 ghost use mathlib.Core.Path.{_≡_};
 ghost use Prim.Native.Nat.{_<_};
 ghost use lib.ListN.{length, getD};

@@ -1,4 +1,4 @@
--- The limits of document 01, "The sheet" and "The cost table".
+-- The limits of document 01, "The sheet" and "The cost table", and the flag of document 02, W-201.
 -- Assumes nothing.
 use Prim.Native.Nat.{ℕ, _^_}
 
@@ -25,6 +25,10 @@ maxArcs = 8192
 -- the number of sets of stations
 abbrev pub maxSubsets : ℕ
 maxSubsets = 2 ^ maxTerminals
+
+-- what a landing entry has more for a site that is a sender
+abbrev pub senderFlag : ℕ
+senderFlag = 1024
 
 -- the least price of a leg, in cents
 abbrev pub minWeight : ℕ

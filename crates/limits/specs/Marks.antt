@@ -2,7 +2,7 @@
 -- Assumes nothing.
 use Prim.Native.Nat.{ℕ}
 
--- `HD`, `LK`, `BK`, `ST`, `ED`: the records of a sheet
+-- `HD`, `LK`, `BK`, `ST`, `SR`, `ED`: the records of a sheet
 abbrev pub markHD : ℕ
 markHD = 0x4844
 
@@ -14,6 +14,9 @@ markBK = 0x424B
 
 abbrev pub markST : ℕ
 markST = 0x5354
+
+abbrev pub markSR : ℕ
+markSR = 0x5352
 
 abbrev pub markED : ℕ
 markED = 0x4544

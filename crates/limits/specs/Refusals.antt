@@ -1,4 +1,4 @@
--- The refusal numbers of document 01, "What is sent back", by the table's words.
+-- The refusal numbers, by the words of document 01, "What is sent back", and of document 02.
 -- Assumes nothing.
 use Prim.Native.Nat.{ℕ}
 
@@ -58,3 +58,6 @@ stationMissed = 18
 
 abbrev pub falseTotal : ℕ
 falseTotal = 19
+
+abbrev pub notASender : ℕ
+notASender = 20

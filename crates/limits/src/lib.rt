@@ -1,4 +1,4 @@
-// The numbers of document 01 that the code compares with: the limits of a sheet, the cost "none", the marks of the formats and the
+// The numbers of documents 01 and 02 that the code compares with: the limits of a sheet, the cost "none", the marks of the formats and the
 // refusal numbers. specs/Limits.antt, Marks.antt and Refusals.antt have the same numbers for the definitions; every proof that
 // meets one of them on both sides fails where the two differ.
 
@@ -15,6 +15,9 @@ pub const MAX_ARCS: u16 = 8192;
 
 // The number of sets of stations: 2 to the power MAX_TERMINALS.
 pub const MAX_SUBSETS: u16 = 1024;
+
+// What a landing entry has more for a site that is a sender.
+pub const SENDER_FLAG: u16 = 1024;
 
 // The least and the greatest price of a leg, in cents.
 pub const MIN_WEIGHT: u32 = 1;
@@ -35,6 +38,8 @@ pub const MARK_LK: u16 = 0x4C4B;
 pub const MARK_BK: u16 = 0x424B;
 
 pub const MARK_ST: u16 = 0x5354;
+
+pub const MARK_SR: u16 = 0x5352;
 
 pub const MARK_ED: u16 = 0x4544;
 
@@ -80,3 +85,5 @@ pub const NO_TREE: u8 = 17;
 pub const STATION_MISSED: u8 = 18;
 
 pub const FALSE_TOTAL: u8 = 19;
+
+pub const NOT_A_SENDER: u8 = 20;

@@ -1,22 +1,23 @@
 -- Tests over the entries of a list and over the numbers below n: all pass, some passes; and the lowest number below n that passes. What each
 -- says, and when it passes. Tests that agree give the same.
 -- Assumes nothing.
-use Prim.Native.Nat.{ℕ, zero, suc, _<_}
+use Prim.Native.Nat.{ℕ, zero, suc, _+_, _<_}
 use mathlib.Core.Path.{_≡_, refl, sym, ap, ap₂, _∙_, subst}
 use mathlib.Core.Logic.{⊎-elim}
 use mathlib.Core.Bool.{Bool, true, false, not, _&&_, _||_}
 use mathlib.Core.Option.{Option, none, some}
 use mathlib.Core.List.{List, [], _∷_}
+use native.Mathlib.Numerals.{add-one}
 use native.Mathlib.Omega.{arith}
 use native.Mathlib.Decide.{ℕ-discrete, decLt}
 use lib.Dec.{T}
-use Rattle.lists.specs.Tests.{true-fact, false-not-fact, not-both, and-left, and-right, and-both, or-cases, or-left, or-right}
+use Rattle.lists.specs.Tests.{fact-true, true-fact, false-not-fact, not-both, and-left, and-right, and-both, or-cases, or-left, or-right}
 use Rattle.lists.specs.Listed.{listed, listed-head, listed-tail, listed-cases}
 
 -- ---- over a list
 
 -- some entry passes; every entry passes
-abbrev pub anyOf : (ℕ → Bool) → List ℕ → Bool
+abbrev pub anyOf : {A : Type 0} → (A → Bool) → List A → Bool
 anyOf f [] = false
 anyOf f (x ∷ l) = f x || anyOf f l
 
@@ -82,6 +83,13 @@ any-of f (suc n) i l t = go (ℕ-discrete i n) (λ h. any-of f n i h t)
     go (yes e) rest = or-left (f n) (anyTo f n) (subst (λ (x : ℕ). T (f x)) e t)
     go (no p) rest = or-right (f n) (anyTo f n) (rest (omega arith))
 
+-- as a loop finds it: where number i passes, some number does; where none below n passes, and n does not, none below n + 1 does
+pub any-found : (f : ℕ → Bool) (n i : ℕ) → i < n → f i ≡ true → anyTo f n ≡ true
+any-found f n i l e = fact-true (any-of f n i l (true-fact e))
+
+pub none-more : (f : ℕ → Bool) (n : ℕ) → anyTo f n ≡ false → f n ≡ false → anyTo f (n + 1) ≡ false
+none-more f n before here = ap (anyTo f) (add-one n) ∙ ap₂ _||_ here before
+
 -- the number found below n, else n where it passes
 abbrev pub foundOr : Option ℕ → Bool → ℕ → Option ℕ
 foundOr (some i) b n = some i
@@ -141,6 +149,10 @@ first-none f n h = go (first f n) (first-is-first f n)
 pub all-same : (f g : ℕ → Bool) (n : ℕ) → ((i : ℕ) → i < n → f i ≡ g i) → allTo f n ≡ allTo g n
 all-same f g zero same = refl
 all-same f g (suc n) same = ap₂ _&&_ (same n (omega arith)) (all-same f g n (λ i l. same i (omega arith)))
+
+pub any-same : (f g : ℕ → Bool) (n : ℕ) → ((i : ℕ) → i < n → f i ≡ g i) → anyTo f n ≡ anyTo g n
+any-same f g zero h = refl
+any-same f g (suc n) h = ap₂ _||_ (h n (omega arith)) (any-same f g n (λ i l. h i (omega arith)))
 
 pub first-same : (f g : ℕ → Bool) (n : ℕ) → ((i : ℕ) → i < n → f i ≡ g i) → first f n ≡ first g n
 first-same f g zero same = refl

@@ -1,4 +1,4 @@
--- The members of a list of any kind: of the entries that pass a test, and of a function's values. The entries that pass a test are a
+-- The members of a list of any kind: whether one passes a test, those that pass it, and a function's values. The entries that pass a test are a
 -- sublist. The library has the members of lists put together: Memᴰ·append-left and Memᴰ·append-right of mathlib.Core.List.
 -- Assumes nothing.
 use Prim.Native.Nat.{ℕ}
@@ -7,12 +7,25 @@ use mathlib.Core.Logic.{⊎-elim}
 use mathlib.Core.Bool.{Bool, true, false}
 use mathlib.Core.List.{List, [], _∷_, _++_, map, List·Memᴰ, List·Memᴰ·head, List·Memᴰ·tail, Memᴰ·append-left, Memᴰ·append-right, Memᴰ·map}
 use lib.Dec.{T}
-use Rattle.lists.specs.Tests.{by-fact, not-both}
+use Rattle.lists.specs.Tests.{by-fact, not-both, or-cases, or-left, or-right}
+use Rattle.lists.specs.Find.{anyOf}
 use Rattle.lists.specs.Select.{keep, select}
 use Rattle.lists.specs.Sublists.{sublists}
 use Rattle.lists.specs.Listed.{listed, listed-same, listed-tail, listed-cases}
 
 module _ {A : Type 0} where
+  -- ---- some entry passes a test
+
+  -- where some entry passes, a member does, and the other way round
+  pub any-member : (p : A → Bool) (l : List A) → T (anyOf p l) → (x : A) × List·Memᴰ x l × T (p x)
+  any-member p [] t = absurd t
+  any-member p (y ∷ l) t = ⊎-elim (λ (s : T (p y)). (y, List·Memᴰ·head refl, s))
+      (λ (s : T (anyOf p l)). let r = any-member p l s in (r .0, List·Memᴰ·tail (r .1), r .2)) (or-cases (p y) (anyOf p l) t)
+
+  pub member-any : {x : A} (p : A → Bool) (l : List A) → List·Memᴰ x l → T (p x) → T (anyOf p l)
+  member-any p (y ∷ l) (List·Memᴰ·head s) t = or-left (p y) (anyOf p l) (subst (λ (z : A). T (p z)) s t)
+  member-any p (y ∷ l) (List·Memᴰ·tail m) t = or-right (p y) (anyOf p l) (member-any p l m t)
+
   -- ---- the entries that pass a test
 
   -- a member of them is a member of the list that passes, and the other way round

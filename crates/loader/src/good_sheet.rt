@@ -12,6 +12,11 @@ pub fn first_record(bytes: &[u8]) -> Record
     ensures { λ r. ⌜ r ≡ firstRecord (now (bytes .entry)) ⌝ }
 {
     let mark = u16_at(bytes, 0);
+    if mark == limits::MARK_SR {
+        return Record::Sender {
+            node: u16_at(&bytes[2..], 0),
+        };
+    }
     if mark == limits::MARK_ST {
         let landing = landing_in(&bytes[2..]);
         return Record::Landing {

@@ -2,6 +2,7 @@
 mod good_sheet;
 
 use crate::good_sheet::first_record;
+use landing_entries::flags::flag_unless_some;
 use record_tables::clear_landings;
 use record_tables::put_record;
 use records::record::END_SIZE;
@@ -11,9 +12,10 @@ ghost use Rattle.lent_tables.specs.SheetTables.{sheetTables};
 ghost use Rattle.records.specs.Records.{headSize};
 ghost use Rattle.sheet.specs.Verdict.{verdict};
 ghost use Rattle.loader.specs.LoadedBy.{loadedBy};
-ghost use Rattle.loader.specs.laws.Loading.{Loadable, Loading};
+ghost use Rattle.loader.specs.laws.Loading.{Loadable, Loading, readBy};
 
-// Record after record: the legs in order, and the stations of each site. The records are read without a test, since the sheet is good.
+// Record after record: the legs in order, the stations of each site, and the flags of the named sites. The records are read without a test, since
+// the sheet is good.
 fn load_records(
     sheet: &[u8],
     starts: &mut [u16],
@@ -24,7 +26,7 @@ fn load_records(
     requires { ⌜ (let t = sheetTables (now starts) (now ends) (now weights) (now landings) in Loading (now sheet) t headSize 0 t) ⌝ }
     ensures { λ _. ⌜ (let before = sheetTables (now (starts .entry)) (now (ends .entry)) (now (weights .entry)) (now (landings .entry)) in
         let after = sheetTables (now (starts .exit)) (now (ends .exit)) (now (weights .exit)) (now (landings .exit)) in
-        after ≡ loadedBy (verdict (now (sheet .entry))) before) ⌝ }
+        after ≡ readBy (verdict (now (sheet .entry))) before) ⌝ }
 {
     let end = sheet.len() - END_SIZE;
     let mut at: usize = HEAD_SIZE;
@@ -37,7 +39,7 @@ fn load_records(
     }
 }
 
-// The tables of a good sheet with n sites, where they are long enough.
+// The tables of a good sheet with n sites, where they are long enough: a sheet without `SR` makes every site a sender.
 pub fn load(
     sheet: &[u8],
     n: u16,
@@ -53,4 +55,5 @@ pub fn load(
 {
     clear_landings(landings, n as usize);
     load_records(sheet, starts, ends, weights, landings);
+    flag_unless_some(landings, n as usize);
 }

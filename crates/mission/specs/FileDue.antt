@@ -1,13 +1,15 @@
--- Which of the refusals 14 to 19 is due for a plan file, and where, over the file's bytes (document 01, "What is sent back"): "Plan reader: sheet, 11,
+-- Which of the refusals 14 to 20 is due for a plan file, and where, over the file's bytes (document 01, "What is sent back"): "Plan reader: sheet, 11,
 -- file under 10 bytes (14), `PN` (15), root (16), short (14), left over (15), then each leg's mark (15) and number (16), then 17, 18, 19."
+-- Document 02, W-201, on 20: "it comes after 17 and before 18, place 0".
 -- Assumes nothing.
 use Prim.Native.Nat.{ℕ, _≤_, _<_}
 use mathlib.Core.Path.{_≡_}
 use mathlib.Core.Logic.{_≢_}
 use mathlib.Core.List.{List}
+use lib.Dec.{T}
 use lib.ListN.{length}
 use Rattle.limits.specs.Marks.{markPN, markLG}
-use Rattle.limits.specs.Refusals.{cutPlan, badPlan, unknownNumber, noTree, stationMissed, falseTotal}
+use Rattle.limits.specs.Refusals.{cutPlan, badPlan, unknownNumber, noTree, notASender, stationMissed, falseTotal}
 use Rattle.graph.specs.Graph.{Graph}
 use Rattle.graph.specs.Subtrees.{Subtree, CoversAll, total}
 use Rattle.number_fields.specs.Fields.{number16}
@@ -56,8 +58,11 @@ pub data FileDue (G : Graph) (file : List ℕ) : (number place : ℕ) → Type 0
       → FileDue G file unknownNumber (fileSize i)
   -- 17: "not a tree"
   no-tree : FilePasses G file → (Subtree G (rootIn file) (arcsIn file) → ⊥) → FileDue G file noTree 0
+  -- 20: "the plan's root is no sender"
+  not-sender : FilePasses G file → Subtree G (rootIn file) (arcsIn file) → (T (G .mayRoot (rootIn file)) → ⊥) → FileDue G file notASender 0
   -- 18: "no landing of some station held"
-  missed : FilePasses G file → Subtree G (rootIn file) (arcsIn file) → (CoversAll G (rootIn file) (arcsIn file) → ⊥) → FileDue G file stationMissed 0
+  missed : FilePasses G file → Subtree G (rootIn file) (arcsIn file) → T (G .mayRoot (rootIn file))
+      → (CoversAll G (rootIn file) (arcsIn file) → ⊥) → FileDue G file stationMissed 0
   -- 19: "total differs from the sum"
-  false-total : FilePasses G file → Subtree G (rootIn file) (arcsIn file) → CoversAll G (rootIn file) (arcsIn file)
+  false-total : FilePasses G file → Subtree G (rootIn file) (arcsIn file) → T (G .mayRoot (rootIn file)) → CoversAll G (rootIn file) (arcsIn file)
       → totalIn file ≢ total G (rootIn file) (arcsIn file) → FileDue G file falseTotal 0

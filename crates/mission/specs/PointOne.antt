@@ -9,7 +9,7 @@ use mathlib.Core.List.{List}
 use lib.Dec.{leb, eqb}
 use lib.ListN.{length, getD, replicate}
 use Rattle.limits.specs.Limits.{noCost}
-use Rattle.limits.specs.Refusals.{shortSheet, unheard, shortTables, noPlan, shortBuffer, cutPlan, unknownNumber, noTree, falseTotal}
+use Rattle.limits.specs.Refusals.{shortSheet, unheard, shortTables, noPlan, shortBuffer, cutPlan, unknownNumber, noTree, notASender}
 use Rattle.lists.specs.Over.{over}
 use Rattle.answer.specs.Stated.{Family, ofSheet, ofTables, ofSearch, ofPlanFile, Stated, plan, cell, sender, noSender, refused, statedSheet}
 use Rattle.answer.specs.declared.SheetFault.{SheetFault}
@@ -26,7 +26,7 @@ use Rattle.mission.specs.Runs.{ReaderTables, ReaderLong, Reader, EngineT
 
 -- ---- one plan or one refusal
 
--- "Numbers 1 to 10 are the sheet's ..; 11 and 13 the tables'; 12 the search's; 14 to 19 the plan file's"
+-- "Numbers 1 to 10 are the sheet's ..; 11 and 13 the tables'; 12 the search's; 14 to 19 the plan file's", and 20 too (document 02, W-201)
 abbrev pub causeOf : ℕ → Family
 causeOf number =
     cond (leb number unheard) ofSheet
@@ -46,9 +46,9 @@ PlanOrRefusal May noSender = ⊥
 abbrev pub EngineNumber : ℕ → Type 0
 EngineNumber number = (shortSheet ≤ number) × (number ≤ shortBuffer)
 
--- the plan reader's: 1 to 11 and 14 to 19
+-- the plan reader's: 1 to 11 and 14 to 20
 abbrev pub ReaderNumber : ℕ → Type 0
-ReaderNumber number = ((shortSheet ≤ number) × (number ≤ shortTables)) ⊎ ((cutPlan ≤ number) × (number ≤ falseTotal))
+ReaderNumber number = ((shortSheet ≤ number) × (number ≤ shortTables)) ⊎ ((cutPlan ≤ number) × (number ≤ notASender))
 
 -- 1 to 11 are given exactly where they are due: a sheet that is not good gets the refusal of its verdict, number and place; a good sheet with a
 -- table that is not long enough gets 11; and a good sheet with long enough tables gets none of them
@@ -61,8 +61,8 @@ pub record FirstDue (sheet : List ℕ) (Long : (n k arcCount : ℕ) → Type 0) 
 
 -- ---- the tables
 
--- as after a plan: "the first entries of these hold the legs in order, each site's set of stations" (`loaded` of crate record_tables), "the costs, and 1
--- in each mark; later entries are untouched"
+-- as after a plan: "the first entries of these hold the legs in order, each site's set of stations" (`loaded` of crate record_tables, with the flags
+-- of the senders, document 02, W-201), "the costs, and 1 in each mark; later entries are untouched"
 pub record AsAfterPlan (n k : ℕ) (records : List Record) (before after : EngineTables) : Type 0 where
   pub tables : after .tables ≡ loaded n records (before .tables)
   pub cells : after .cells ≡ over (costTable (graphOf n k records) noCost) (before .cells)
@@ -117,13 +117,13 @@ pub record ReaderSafe (sheet file : List ℕ) (before : ReaderTables) (answer : 
       → GoodWith sheet (λ n k records. AsRead n k records file before after)
   pub accepted : (root cost count : ℕ) → answer ≡ plan root cost count → GoodWith sheet (λ n k records. AsRead n k records file before after)
 
--- with a good sheet and long enough tables, 14 to 19 are given exactly where they are due, each at its place
+-- with a good sheet and long enough tables, 14 to 20 are given exactly where they are due, each at its place
 abbrev pub GetsDue : (sheet file : List ℕ) → ReaderTables → Stated → Type 0
 GetsDue sheet file t answer =
     (n k : ℕ) (records : List Record) → verdict sheet ≡ good n k records → ReaderLong n k (length (arcs records)) t
     → (number place : ℕ) → (answer ≡ refused ofPlanFile number place) ↔ FileDue (graphOf n k records) file number place
 
--- and 1 to 11, and 14 to 19, are given where they are due
+-- and 1 to 11, and 14 to 20, are given where they are due
 abbrev pub ReaderAnswers : (sheet file : List ℕ) → ReaderTables → Stated → ReaderTables → Type 0
 ReaderAnswers sheet file before answer after =
     ReaderSafe sheet file before answer after

@@ -24,8 +24,8 @@ use Rattle.mission.specs.Runs.{ReaderTables, Reader, EngineTables, Engin
 use Rattle.mission.specs.PointTwo.{Accepts}
 use Rattle.mission.specs.Rule.{ByRule}
 
--- "every directed subtree of the sheet's legs that holds a site of every station has at least" this total. The root is a site that may be a
--- root: in the base, any site, so that this is the mission's sentence as it stands (`sheet-none-cheaper` in EverySite.antt).
+-- "every directed subtree of the sheet's legs that holds a site of every station has at least" this total, of the subtrees whose root may be a
+-- root: a sender (document 02, W-201: "every rival tree [is] judged among trees whose root is a sender"; `sheet-none-cheaper` in SheetWords.antt).
 abbrev pub NoneCheaper : Graph → ℕ → Type 0
 NoneCheaper G cost = (root : ℕ) (L : List ℕ) → T (G .mayRoot root) → Subtree G root L → CoversAll G root L → cost ≤ total G root L
 
@@ -36,8 +36,8 @@ BestTotal sheet answer read =
     (root cost count : ℕ) → answer ≡ plan root cost count → (file : List ℕ) → Bytes file → (t : ReaderTables) → Accepts (read sheet file t .answer)
     → (n k : ℕ) (records : List Record) → verdict sheet ≡ good n k records → (cost ≡ totalIn file) ↔ NoneCheaper (graphOf n k records) (totalIn file)
 
--- some site "has directed paths to a site of every station". The site is one that may be a root: in the base, any site, so that this too is as
--- the mission says it (`sheet-some-reaches` in EverySite.antt).
+-- some site "has directed paths to a site of every station". The site is one that may be a root: a sender (`sheet-some-reaches` in
+-- SheetWords.antt).
 abbrev pub SomeReachesAll : Graph → Type 0
 SomeReachesAll G = (v : ℕ) × (v < G .nodes) × T (G .mayRoot v) × ReachesAll G v
 

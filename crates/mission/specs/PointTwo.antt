@@ -25,7 +25,7 @@ use Rattle.mission.specs.Rule.{ByRule}
 
 -- "such a subtree": "a directed subtree by Kimelfeld and Sagiv's definition: its legs are on the sheet, it holds a site of every station, its
 -- total is the sum of its prices". That `Subtree` is document 004's, and that `total` is the sum of the prices, are theorems about the graph
--- of a sheet: `sheet-one-path` and `sheet-total` in crate network. Its root is a site that may be a root: in the base, any site.
+-- of a sheet: `sheet-one-path` and `sheet-total` in crate network. Its root is a site that may be a root: a sender (document 02, W-201).
 pub record IsPlan (G : Graph) (root cost : ℕ) (L : List ℕ) : Type 0 where
   pub may-root : T (G .mayRoot root)
   pub subtree : Subtree G root L

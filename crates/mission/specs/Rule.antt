@@ -1,6 +1,6 @@
 -- The stated rule by which equals are chosen (document 01, "Laying out a plan"), as a relation between a root and a list of legs. A cost is a
 -- least total over directed subtrees; "none" has no value, so every cost that is named here is finite. A total counts the charges of the held
--- sites, which are 0 in the base. The root is looked for among the sites that may be a root: in the base, every site.
+-- sites, which are 0. The root is looked for among the sites that may be a root: the senders (document 02, W-201).
 -- Assumes nothing.
 use Prim.Native.Nat.{ℕ, _+_, _-_, _<_, _≤_}
 use mathlib.Core.Path.{_≡_}
@@ -70,8 +70,8 @@ pub record LeastRoot (G : Graph) (x v : ℕ) : Type 0 where
   pub costs : Costs G v (full (G .terminals)) x
   pub least : (u y : ℕ) → u < G .nodes → T (G .mayRoot u) → Costs G u (full (G .terminals)) y → x ≤ y
 
--- the plan by the rule: "The root is the lowest site whose full-set cell is least", of the sites that may be a root; the legs laid out from it
--- with the full set
+-- the plan by the rule: "The root is the lowest site whose full-set cell is least", of the sites that may be a root, "the lowest cheapest
+-- sender" (document 02, W-201); the legs laid out from it with the full set
 pub record ByRule (G : Graph) (root cost : ℕ) (L : List ℕ) : Type 0 where
   pub root-is : Lowest (LeastRoot G cost) root
   pub laid : Added G root (full (G .terminals)) L

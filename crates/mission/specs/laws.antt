@@ -1,5 +1,5 @@
--- point 3 where every site may be a root
-pub mod EverySite
+-- the rule and the points in the words of a sheet
+pub mod SheetWords
 -- the rule gives one plan
 pub mod OnePlan
 -- laws that the proofs of the points share

@@ -1,5 +1,5 @@
 -- The worked sheets A, C, D and E of document 01, from their bytes: the least totals, the root, the layout there and the nodes that listed
--- arcs reach, settled by computation.
+-- arcs reach, settled by computation. Of the sheets M to Q, which name senders, the root among them; of O the rest too.
 -- Assumes nothing.
 use Prim.Native.Nat.{ℕ}
 use mathlib.Core.Path.{_≡_, refl}
@@ -13,7 +13,7 @@ use Rattle.graph.specs.LeastTotals.{leastCell}
 use Rattle.graph.specs.Layout.{rootOf, layout}
 use Rattle.graph.specs.Worked.{totals}
 use Rattle.sheet.specs.Verdict.{Verdict, good, bad, verdict, readFor}
-use Rattle.sheet.specs.Worked.{sheetA, sheetC, sheetD, sheetE}
+use Rattle.sheet.specs.Worked.{sheetA, sheetC, sheetD, sheetE, sheetM, sheetN, sheetO, sheetP, sheetQ}
 use Rattle.network.specs.Network.{graphOf}
 
 -- what is asked of the graph of a sheet, answered; none where the sheet is refused
@@ -38,7 +38,8 @@ abbrev pub reached : List ℕ → ℕ → Graph → List ℕ
 reached L u G = reachedNodes G L u
 
 -- for each sheet the totals, the root, its cell of the full set, the arcs laid out from it, and reached nodes; in E every cell of the full
--- set is none, and no layout is asked
+-- set is none, and no layout is asked. Of the sheets with senders: in M and P every sender's cell of the full set is none; in N the root of A is a
+-- sender; in O two senders cost the same, and node 0, which is no sender, costs less; in Q the higher of two nodes that cost the same is the sender.
 pub settled :
     (asked totals (verdict sheetA) ≡ some (
     (some 0 ∷ some 5 ∷ some 6 ∷ some 10 ∷ some 0 ∷ some 5 ∷ some 6 ∷ some 10 ∷ [])
@@ -79,5 +80,26 @@ pub settled :
     × (asked (fullCell 0) (verdict sheetE) ≡ some noCost)
     × (asked (reached [] 0) (verdict sheetE) ≡ some (0 ∷ []))
     × (asked (reached [] 1) (verdict sheetE) ≡ some (1 ∷ []))
+    × (asked root (verdict sheetM) ≡ some (some 1))
+    × (asked (fullCell 1) (verdict sheetM) ≡ some noCost)
+    × (asked (fullCell 0) (verdict sheetM) ≡ some 10)
+    × (asked root (verdict sheetN) ≡ some (some 0))
+    × (asked (fullCell 0) (verdict sheetN) ≡ some 10)
+    × (asked (laidOut 0) (verdict sheetN) ≡ some (0 ∷ 1 ∷ 2 ∷ []))
+    × (asked totals (verdict sheetO) ≡ some (
+    (some 0 ∷ some 0 ∷ some 4 ∷ some 4 ∷ [])
+    ∷ (some 0 ∷ some 5 ∷ some 9 ∷ some 9 ∷ [])
+    ∷ (some 0 ∷ some 5 ∷ some 9 ∷ some 9 ∷ [])
+    ∷ (some 0 ∷ none ∷ some 0 ∷ none ∷ [])
+    ∷ []))
+    × (asked root (verdict sheetO) ≡ some (some 1))
+    × (asked (fullCell 1) (verdict sheetO) ≡ some 9)
+    × (asked (laidOut 1) (verdict sheetO) ≡ some (1 ∷ 2 ∷ []))
+    × (asked root (verdict sheetP) ≡ some (some 1))
+    × (asked (fullCell 1) (verdict sheetP) ≡ some noCost)
+    × (asked (fullCell 2) (verdict sheetP) ≡ some noCost)
+    × (asked root (verdict sheetQ) ≡ some (some 1))
+    × (asked (fullCell 1) (verdict sheetQ) ≡ some 7)
+    × (asked (laidOut 1) (verdict sheetQ) ≡ some (1 ∷ []))
 unfolding verdict readFor
-settled = (refl, refl, refl, refl, refl, refl, refl, refl, refl, refl, refl, refl, refl, refl, refl, refl, refl, refl, refl, refl, refl, refl, refl, refl)
+settled = (refl, refl, refl, refl, refl, refl, refl, refl, refl, refl, refl, refl, refl, refl, refl, refl, refl, refl, refl, refl, refl, refl, refl, refl, refl, refl, refl, refl, refl, refl, refl, refl, refl, refl, refl, refl, refl, refl, refl, refl)

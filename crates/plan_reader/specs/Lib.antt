@@ -1,5 +1,4 @@
--- what a reader must believe, and the worked files
+-- what a reader must believe
 pub mod Reader
-pub mod Worked
 -- the cases of the answer, and the mission's points
 pub mod laws

@@ -1,6 +1,7 @@
 -- The plan reader's answer to a sheet, a plan file and all the tables but the cells, and every table afterwards (document 01, "The plan file"
 -- and "What is sent back"): "Plan reader: sheet, 11, file under 10 bytes (14), `PN` (15), root (16), short (14), left over (15), then each
--- leg's mark (15) and number (16), then 17, 18, 19." The answer to a file against the sheet's graph is defined in crate file_reader.
+-- leg's mark (15) and number (16), then 17, 18, 19."; 20 "comes after 17 and before 18" (document 02, W-201). The answer to a file against the
+-- sheet's graph is defined in crate file_reader.
 -- Assumes nothing.
 use Prim.Native.Nat.{ℕ}
 use mathlib.Core.List.{List}

@@ -1,5 +1,6 @@
--- The tests of 17, 18 and 19 as the code makes them, from the marks of the nodes that the listed arcs reach: how many nodes are marked, which
--- terminals have a landing at a marked node, and the sum of the listed arcs' weights.
+-- The tests of 17, 20, 18 and 19 as the code makes them, from the marks of the nodes that the listed arcs reach and from the landing entries:
+-- how many nodes are marked, whether the root's entry is a sender's, which terminals have a landing at a marked node, and the sum of the listed
+-- arcs' weights.
 -- Assumes nothing.
 use Prim.Native.Nat.{ℕ, _+_, _<_}
 use mathlib.Core.Bool.{cond}
@@ -9,7 +10,8 @@ use lib.ListN.{length, getD}
 use lib.Dec.{eqb}
 use Rattle.lists.specs.Count.{bit}
 use Rattle.lists.specs.Sums.{sumTo}
-use Rattle.subset.specs.Sets.{empty, full, isPart, terminalsIn}
+use Rattle.subset.specs.Sets.{empty, full, isPart}
+use Rattle.landing_entries.specs.Entries.{terminalsIn, senderIn}
 use Rattle.subset.specs.Unions.{unionTo}
 use Rattle.answer.specs.declared.PlanFault.{PlanFault}
 use Rattle.planfile.specs.Format.{listedArc}
@@ -34,6 +36,7 @@ markedTerminals marks landings = unionTo (length marks) (terminalsMarked marks l
 abbrev pub weightSum : List ℕ → ℕ → List ℕ → ℕ
 weightSum file count weights = sumTo count (λ i. getD weights (listedArc file i) 0)
 
-abbrev pub judgedFault : (file : List ℕ) (cost count k : ℕ) (weights landings marks : List ℕ) → Option PlanFault
-judgedFault file cost count k weights landings marks =
-    firstFailed (eqb (markedCount marks) (count + 1)) (isPart (full k) (markedTerminals marks landings)) (eqb cost (weightSum file count weights))
+abbrev pub judgedFault : (file : List ℕ) (root cost count k : ℕ) (weights landings marks : List ℕ) → Option PlanFault
+judgedFault file root cost count k weights landings marks =
+    firstFailed (eqb (markedCount marks) (count + 1)) (senderIn (getD landings root 0)) (isPart (full k) (markedTerminals marks landings))
+    (eqb cost (weightSum file count weights))

@@ -1,18 +1,20 @@
-// The tests of a file's legs against the sheet, where the sites that they reach are marked: refusals 17, 18 and 19.
+// The tests of a file's root, legs and total against the sheet, where the sites that the legs reach are marked: refusals 17, 20, 18 and 19.
 use answer::Answer;
 use answer::PlanFault;
 use answer::Refusal;
+use landing_entries::is_sender;
+use landing_entries::terminals_in;
 use planfile::fields::arc_at;
 use subset::Subset;
-use subset::terminals_in;
 ghost use mathlib.Core.Path.{_≡_};
-ghost use Prim.Native.Nat.{_≤_};
+ghost use Prim.Native.Nat.{_≤_, _<_};
 ghost use mathlib.Core.Bool.{cond};
 ghost use lib.Dec.{eqb};
 ghost use lib.ListN.{length};
 ghost use Rattle.limits.specs.Limits.{maxTerminals};
 ghost use Rattle.lists.specs.Count.{bit};
-ghost use Rattle.subset.specs.Sets.{empty, terminalsIn};
+ghost use Rattle.subset.specs.Sets.{empty};
+ghost use Rattle.landing_entries.specs.Entries.{terminalsIn};
 ghost use Rattle.planfile.specs.Format.{fileSize};
 ghost use Rattle.answer.specs.Stated.{stated};
 ghost use Rattle.plan_tests.specs.PlanFaults.{answeredAs};
@@ -81,7 +83,7 @@ fn weight_sum(file: &[u8], count: u16, weights: &[u32]) -> u64
     sum
 }
 
-// 17, 18 and 19, in this order. The legs are a tree exactly where they reach one site more than there are legs, and a tree holds the sites
+// 17, 20, 18 and 19, in this order. The legs are a tree exactly where they reach one site more than there are legs, and a tree holds the sites
 // that it reaches.
 pub fn test_plan(
     file: &[u8],
@@ -94,12 +96,17 @@ pub fn test_plan(
     marks: &[u8],
 ) -> Answer
     requires { ⌜ (fileSize count ≤ length (now file)) × ArcsBelow (now file) count (length (now weights))
-        × (length (now marks) ≤ length (now landings)) × (k ≤ maxTerminals) ⌝ }
+        × (root < length (now marks)) × (length (now marks) ≤ length (now landings)) × (k ≤ maxTerminals) ⌝ }
     ensures { λ r. ⌜ stated r
-        ≡ answeredAs (judgedFault (now (file .entry)) total count k (now (weights .entry)) (now (landings .entry)) (now (marks .entry))) root total count ⌝ }
+        ≡ answeredAs (judgedFault (now (file .entry)) root total count k (now (weights .entry)) (now (landings .entry)) (now (marks .entry)))
+        root total count ⌝ }
 {
     if marked_count(marks) != (count as usize) + 1 {
         return Answer::Refused(Refusal::PlanFile(PlanFault::NoTree));
+    }
+    let node = root as usize;
+    if !is_sender(landings[node]) {
+        return Answer::Refused(Refusal::PlanFile(PlanFault::NotASender));
     }
     let held = marked_terminals(marks, landings);
     if !Subset::full(k).is_part_of(held) {

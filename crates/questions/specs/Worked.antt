@@ -1,40 +1,52 @@
 -- The enquirer's answers over small tables, by computation: the cells that document 01's sheets A, D and E leave (`settled` of crate cases has them),
--- those of A with one entry more. Every refusal and the order of the tests, a cell, "none", best senders, ties, and sites that are no best
--- sender.
+-- those of A with one entry more. Every refusal and the order of the tests, a cell, "none", best senders, ties, sites that are no best sender, and
+-- landing entries of which only some, or none, are a sender's.
 -- Assumes nothing.
 use Prim.Native.Nat.{ℕ}
 use mathlib.Core.Path.{_≡_, refl}
-use mathlib.Core.Bool.{Bool, _&&_}
+use mathlib.Core.Logic.{⊎-elim}
+use mathlib.Core.Bool.{Bool, not, _&&_, _||_}
 use mathlib.Core.List.{List, [], _∷_}
 use native.Mathlib.Omega.{arith}
 use lib.Dec.{T, ltb, leb, ltb→lt, leb→le}
 use lib.ListN.{take}
 use Rattle.limits.specs.Limits.{noCost}
 use Rattle.lists.specs.Find.{allTo, all-at}
-use Rattle.lists.specs.Tests.{and-left, and-right}
+use Rattle.lists.specs.Tests.{not-both, and-left, and-right, or-cases}
 use Rattle.answer.specs.Stated.{cell, sender, noSender, refused, ofSheet, ofTables}
+use Rattle.landing_entries.specs.Entries.{isSenderAt}
 use Rattle.questions.specs.Questions.{cellAnswer, BestSender, NoneFinite, SenderAnswer}
 
 -- ---- tests of small tables
 
-abbrev isBest : (ℕ → ℕ) → (n v : ℕ) → Bool
-isBest c n v = ltb v n && (ltb (c v) noCost && allTo (λ u. leb (c v) (c u)) n)
+module _ (isSender : ℕ → Bool) (c : ℕ → ℕ) (n : ℕ) where
+  abbrev noCheaper : ℕ → ℕ → Bool
+  noCheaper v u = not (isSender u) || leb (c v) (c u)
 
-best : (c : ℕ → ℕ) (n v : ℕ) → T (isBest c n v) → BestSender c n v
-best c n v t =
-    let rest = and-right (ltb v n) (ltb (c v) noCost && allTo (λ u. leb (c v) (c u)) n) t in
-    let least = and-right (ltb (c v) noCost) (allTo (λ u. leb (c v) (c u)) n) rest in
-    record {
-      site = ltb→lt v n (and-left (ltb v n) (ltb (c v) noCost && allTo (λ u. leb (c v) (c u)) n) t);
-      finite = ltb→lt (c v) noCost (and-left (ltb (c v) noCost) (allTo (λ u. leb (c v) (c u)) n) rest);
-      least = λ u l. leb→le (c v) (c u) (all-at (λ u. leb (c v) (c u)) n least u l);
-    }
+  abbrev isBest : ℕ → Bool
+  isBest v = ltb v n && (isSender v && (ltb (c v) noCost && allTo (noCheaper v) n))
 
-abbrev isNone : (ℕ → ℕ) → ℕ → Bool
-isNone c n = allTo (λ u. leb noCost (c u)) n
+  -- what such a test says of a sender
+  passed : (u : ℕ) (b : Bool) → T (isSender u) → T (not (isSender u) || b) → T b
+  passed u b s t = ⊎-elim (λ (other : T (not (isSender u))). absurd (not-both (isSender u) s other)) (λ (h : T b). h) (or-cases (not (isSender u)) b t)
 
-none : (c : ℕ → ℕ) (n : ℕ) → T (isNone c n) → NoneFinite c n
-none c n t u l finite = omega (arith, leb→le noCost (c u) (all-at (λ u. leb noCost (c u)) n t u l))
+  best : (v : ℕ) → T (isBest v) → BestSender isSender c n v
+  best v t =
+      let rest = and-right (ltb v n) (isSender v && (ltb (c v) noCost && allTo (noCheaper v) n)) t in
+      let last = and-right (isSender v) (ltb (c v) noCost && allTo (noCheaper v) n) rest in
+      record {
+        site = ltb→lt v n (and-left (ltb v n) (isSender v && (ltb (c v) noCost && allTo (noCheaper v) n)) t);
+        licensed = and-left (isSender v) (ltb (c v) noCost && allTo (noCheaper v) n) rest;
+        finite = ltb→lt (c v) noCost (and-left (ltb (c v) noCost) (allTo (noCheaper v) n) last);
+        least = λ u l s.
+            leb→le (c v) (c u) (passed u (leb (c v) (c u)) s (all-at (noCheaper v) n (and-right (ltb (c v) noCost) (allTo (noCheaper v) n) last) u l));
+      }
+
+  abbrev noneAt : ℕ → Bool
+  noneAt u = not (isSender u) || leb noCost (c u)
+
+  none : T (allTo noneAt n) → NoneFinite isSender c n
+  none t u l s finite = omega (arith, leb→le noCost (c u) (passed u (leb noCost (c u)) s (all-at noneAt n t u l)))
 
 -- ---- the tables
 
@@ -62,6 +74,20 @@ cellsE =
     0 ∷ 0 ∷ N ∷ N ∷
     0 ∷ N ∷ 0 ∷ N ∷ []
 
+-- the landing entries of A, where every site is a sender, where site 1 is, and where none is; the second has one entry more, and higher bits
+abbrev landingsA : List ℕ
+landingsA = 1_028 ∷ 1_024 ∷ 1_025 ∷ 1_026 ∷ []
+
+abbrev onlyOne : List ℕ
+onlyOne = 4 ∷ 3_072 ∷ 1 ∷ 2_050 ∷ 1_024 ∷ []
+
+abbrev nobody : List ℕ
+nobody = 4 ∷ 0 ∷ 63_489 ∷ 1_023 ∷ []
+
+-- of D and E, where both sites are senders
+abbrev landingsD : List ℕ
+landingsD = 1_025 ∷ 1_026 ∷ []
+
 -- ---- the answers
 
 pub settled :
@@ -88,26 +114,32 @@ pub settled :
     × (cellAnswer [] 4 3 4 8 ≡ refused ofTables 11 0)
     × (cellAnswer cellsA 4 3 4 8 ≡ refused ofSheet 4 0)
     -- best senders: the full set, stations 0 and 1, station 0
-    × SenderAnswer cellsA 4 3 7 (sender 0)
-    × SenderAnswer cellsA 4 3 3 (sender 1)
-    × SenderAnswer cellsA 4 3 1 (sender 2)
-    -- each of two sites that cost the same, and of the empty set every site
-    × SenderAnswer cellsD 2 2 3 (sender 0)
-    × SenderAnswer cellsD 2 2 3 (sender 1)
-    × SenderAnswer cellsA 4 3 0 (sender 0)
-    × SenderAnswer cellsA 4 3 0 (sender 1)
-    × SenderAnswer cellsA 4 3 0 (sender 2)
-    × SenderAnswer cellsA 4 3 0 (sender 3)
-    -- no sender; one that is dearer, one with "none", one that is no site, and "none" where there is a sender
-    × SenderAnswer cellsE 2 2 3 noSender
-    × (SenderAnswer cellsA 4 3 3 (sender 0) → ⊥)
-    × (SenderAnswer cellsE 2 2 3 (sender 0) → ⊥)
-    × (SenderAnswer cellsA 4 3 0 (sender 4) → ⊥)
-    × (SenderAnswer cellsA 4 3 7 noSender → ⊥)
-    -- the order: 3, 11, 5
-    × SenderAnswer [] 0 11 4096 (refused ofSheet 3 0)
-    × SenderAnswer [] 4 3 8 (refused ofTables 11 0)
-    × SenderAnswer cellsA 4 3 8 (refused ofSheet 5 0)
+    × SenderAnswer cellsA landingsA 4 3 7 (sender 0)
+    × SenderAnswer cellsA landingsA 4 3 3 (sender 1)
+    × SenderAnswer cellsA landingsA 4 3 1 (sender 2)
+    -- each of two senders that cost the same, and of the empty set every sender
+    × SenderAnswer cellsD landingsD 2 2 3 (sender 0)
+    × SenderAnswer cellsD landingsD 2 2 3 (sender 1)
+    × SenderAnswer cellsA landingsA 4 3 0 (sender 0)
+    × SenderAnswer cellsA landingsA 4 3 0 (sender 3)
+    × SenderAnswer cellsA onlyOne 4 3 0 (sender 1)
+    -- a dearer sender, where the cheapest site is none: station 0, heard at site 2
+    × SenderAnswer cellsA onlyOne 4 3 1 (sender 1)
+    -- "none": no sender has a finite cell; no site is a sender
+    × SenderAnswer cellsE landingsD 2 2 3 noSender
+    × SenderAnswer cellsA onlyOne 4 3 7 noSender
+    × SenderAnswer cellsA nobody 4 3 0 noSender
+    -- what is no answer: a dearer sender, a site with "none", no site, no sender, and "none" where there is a best sender
+    × (SenderAnswer cellsA landingsA 4 3 3 (sender 0) → ⊥)
+    × (SenderAnswer cellsE landingsD 2 2 3 (sender 0) → ⊥)
+    × (SenderAnswer cellsA landingsA 4 3 0 (sender 4) → ⊥)
+    × (SenderAnswer cellsA onlyOne 4 3 1 (sender 2) → ⊥)
+    × (SenderAnswer cellsA landingsA 4 3 7 noSender → ⊥)
+    -- the order: 3, 11, 5; each of the two tables counts in 11
+    × SenderAnswer [] [] 0 11 4096 (refused ofSheet 3 0)
+    × SenderAnswer [] landingsA 4 3 8 (refused ofTables 11 0)
+    × SenderAnswer cellsA (take 3 landingsA) 4 3 8 (refused ofTables 11 0)
+    × SenderAnswer cellsA landingsA 4 3 8 (refused ofSheet 5 0)
 settled = (
   refl,
   refl,
@@ -126,20 +158,24 @@ settled = (
   refl,
   refl,
   refl,
-  best _ _ _ tt,
-  best _ _ _ tt,
-  best _ _ _ tt,
-  best _ _ _ tt,
-  best _ _ _ tt,
-  best _ _ _ tt,
-  best _ _ _ tt,
-  best _ _ _ tt,
-  best _ _ _ tt,
-  none _ _ tt,
-  (λ s. absurd (omega (arith, s .least 1 (omega arith)))),
+  best _ _ _ _ tt,
+  best _ _ _ _ tt,
+  best _ _ _ _ tt,
+  best _ _ _ _ tt,
+  best _ _ _ _ tt,
+  best _ _ _ _ tt,
+  best _ _ _ _ tt,
+  best _ _ _ _ tt,
+  best _ _ _ _ tt,
+  none (isSenderAt landingsD) _ _ tt,
+  none (isSenderAt onlyOne) _ _ tt,
+  none (isSenderAt nobody) _ _ tt,
+  (λ s. absurd (omega (arith, s .least 1 (omega arith) tt))),
   (λ s. absurd (omega (arith, s .finite))),
   (λ s. absurd (omega (arith, s .site))),
-  (λ s. s 0 (omega arith) (omega arith)),
+  (λ s. s .licensed),
+  (λ s. s 0 (omega arith) tt (omega arith)),
+  refl,
   refl,
   refl,
   refl,

@@ -5,14 +5,14 @@ use mathlib.Core.Bool.{cond}
 use mathlib.Core.List.{List}
 use lib.ListN.{length, drop}
 use lib.Dec.{ltb, eqb}
-use Rattle.limits.specs.Marks.{markLK, markBK, markST, markED}
+use Rattle.limits.specs.Marks.{markLK, markBK, markST, markSR, markED}
 use Rattle.answer.specs.declared.SheetFault.the-variants.{ShortSheet, StrangeMark}
 use Rattle.subset.specs.Sets.{union}
 use Rattle.number_fields.specs.Fields.{number16}
-use Rattle.records.specs.Records.{linkFields, landingFields, size}
+use Rattle.records.specs.Records.{linkFields, landingFields, senderFields, size}
 use Rattle.records.specs.Arcs.{arcsOf}
 use Rattle.records.specs.Landings.{heardBy}
-use Rattle.record_tests.specs.Tests.{oneWayFound, bothWaysFound, landingFound, endFound}
+use Rattle.record_tests.specs.Tests.{oneWayFound, bothWaysFound, landingFound, senderFound, endFound}
 use Rattle.records.specs.declared.record.Record.{Record}
 use Rattle.record_tests.specs.declared.Found.{Found}
 use Rattle.record_tests.specs.declared.Found.the-variants.{Item, End, Fault}
@@ -27,8 +27,9 @@ foundIn r bytes =
     (cond (eqb (number16 bytes 0) markLK) (oneWayFound (r .offset) (r .n) (r .arcs) (linkFields (drop 2 bytes)))
     (cond (eqb (number16 bytes 0) markBK) (bothWaysFound (r .offset) (r .n) (r .arcs) (linkFields (drop 2 bytes)))
     (cond (eqb (number16 bytes 0) markST) (landingFound (r .offset) (r .n) (r .k) (landingFields (drop 2 bytes)))
+    (cond (eqb (number16 bytes 0) markSR) (senderFound (r .offset) (r .n) (senderFields (drop 2 bytes)))
     (cond (eqb (number16 bytes 0) markED) (endFound (r .offset) (r .k) (r .heard .0) (length (drop 2 bytes)))
-    (Fault (StrangeMark (r .offset)))))))
+    (Fault (StrangeMark (r .offset))))))))
 
 -- the state after one record more
 abbrev pub after : Reading → Record → Reading

@@ -6,6 +6,7 @@ use record_tests::both_ways;
 use record_tests::end;
 use record_tests::landing;
 use record_tests::one_way;
+use record_tests::sender;
 use records::record::Record;
 use subset::Subset;
 ghost use mathlib.Core.Path.{_≡_};
@@ -49,6 +50,9 @@ impl Reading {
         }
         if mark == limits::MARK_ST {
             return landing(self.offset, self.n, self.k, &rest[2..]);
+        }
+        if mark == limits::MARK_SR {
+            return sender(self.offset, self.n, &rest[2..]);
         }
         if mark == limits::MARK_ED {
             return end(self.offset, self.k, self.heard, &rest[2..]);

@@ -1,12 +1,11 @@
-// One record into the lent tables, leg starts, leg ends, leg prices and landing sets, and the landing sets before the first record.
+// One record into the lent tables, leg starts, leg ends, leg prices and landing sets, and the landing entries before the first record.
 use records::record::Record;
 use subset::Subset;
 ghost use mathlib.Core.Path.{_≡_};
 ghost use mathlib.Core.List.{_++_};
 ghost use Prim.Native.Nat.{_+_, _≤_, _<_};
 ghost use lib.ListN.{length, getD, drop, set, replicate};
-ghost use Rattle.limits.specs.Limits.{maxTerminals};
-ghost use Rattle.subset.specs.Sets.{union, single};
+ghost use Rattle.subset.specs.Sets.{union};
 ghost use Rattle.lent_tables.specs.SheetTables.{sheetTables};
 ghost use Rattle.record_tables.specs.laws.Writing.{Fits, withRecord};
 
@@ -49,14 +48,13 @@ fn put_both(
     put_arc(starts, ends, weights, i + 1, end, start, weight);
 }
 
-// A landing: the station joins the site's set.
-fn put_landing(landings: &mut [u16], node: u16, terminal: u8)
-    requires { ⌜ (node < length (now landings)) × (terminal < maxTerminals) ⌝ }
-    ensures { λ _. ⌜ now (landings .exit) ≡ set (now (landings .entry)) node (union (getD (now (landings .entry)) node 0) (single terminal)) ⌝ }
+// A station, or the flag of a sender, joins the site's landing entry.
+fn join_entry(landings: &mut [u16], node: u16, more: u16)
+    requires { ⌜ node < length (now landings) ⌝ }
+    ensures { λ _. ⌜ now (landings .exit) ≡ set (now (landings .entry)) node (union (getD (now (landings .entry)) node 0) more) ⌝ }
 {
     let v = node as usize;
-    let alone = Subset::single(terminal);
-    landings[v] = landings[v] | alone.0;
+    landings[v] = landings[v] | more;
 }
 
 // One record, where `at` legs stand in the tables.
@@ -82,12 +80,16 @@ pub fn put_record(
             put_both(starts, ends, weights, i, start, end, weight);
         }
         Record::Landing { terminal, node } => {
-            put_landing(landings, node, terminal);
+            let alone = Subset::single(terminal);
+            join_entry(landings, node, alone.0);
+        }
+        Record::Sender { node } => {
+            join_entry(landings, node, limits::SENDER_FLAG);
         }
     }
 }
 
-// The first n landing sets are empty.
+// The first n landing entries are empty.
 pub fn clear_landings(landings: &mut [u16], n: usize)
     requires { ⌜ n ≤ length (now landings) ⌝ }
     ensures { λ _. ⌜ now (landings .exit) ≡ replicate n 0 ++ drop n (now (landings .entry)) ⌝ }

@@ -13,8 +13,10 @@ use Rattle.records.specs.declared.fields.LinkFields.{LinkFields}
 use Rattle.records.specs.declared.fields.LinkFields.the-variants.{Short as NoLink, Fields as Link}
 use Rattle.records.specs.declared.fields.LandingFields.{LandingFields}
 use Rattle.records.specs.declared.fields.LandingFields.the-variants.{Short as NoLanding, Fields as LandingAt}
+use Rattle.records.specs.declared.fields.SenderFields.{SenderFields}
+use Rattle.records.specs.declared.fields.SenderFields.the-variants.{Short as NoSender, Fields as SenderAt}
 use Rattle.records.specs.declared.record.Record.{Record}
-use Rattle.records.specs.declared.record.Record.the-variants.{OneWay, BothWays, Landing}
+use Rattle.records.specs.declared.record.Record.the-variants.{OneWay, BothWays, Landing, Sender}
 use Rattle.record_tests.specs.declared.Found.{Found}
 use Rattle.record_tests.specs.declared.Found.the-variants.{Item, End, Fault}
 
@@ -46,6 +48,11 @@ landingFound at n k (LandingAt terminal node) =
     cond (leb k terminal) (Fault (NoSuchStation at))
     (cond (leb n node) (Fault (NoSuchSite at))
     (Item (Landing terminal node)))
+
+-- `SR`: 4
+abbrev pub senderFound : (at n : ℕ) → SenderFields → Found
+senderFound at n NoSender = Fault (ShortSheet at)
+senderFound at n (SenderAt node) = cond (leb n node) (Fault (NoSuchSite at)) (Item (Sender node))
 
 -- `ED`: 9, at the first byte after it, and 10; `left` is the number of bytes after the mark
 abbrev pub endFound : (at k heard left : ℕ) → Found

@@ -3,17 +3,19 @@
 use answer::SheetFault;
 use records::fields::LandingFields;
 use records::fields::LinkFields;
+use records::fields::SenderFields;
 use records::fields::landing_fields;
 use records::fields::link_fields;
+use records::fields::sender_fields;
 use records::record::Record;
 use subset::Subset;
 ghost use mathlib.Core.Path.{_≡_};
 ghost use Prim.Native.Nat.{_+_, _≤_, _<_, _^_};
 ghost use lib.ListN.{length};
 ghost use Rattle.limits.specs.Limits.{maxTerminals, maxArcs};
-ghost use Rattle.records.specs.Records.{linkFields, landingFields};
+ghost use Rattle.records.specs.Records.{linkFields, landingFields, senderFields};
 ghost use Rattle.records.specs.Arcs.{arcsOf};
-ghost use Rattle.record_tests.specs.Tests.{linkTests, oneWayFound, bothWaysFound, landingFound, endFound};
+ghost use Rattle.record_tests.specs.Tests.{linkTests, oneWayFound, bothWaysFound, landingFound, senderFound, endFound};
 
 // What stands next: a record that passes its tests, the end, or the refusal.
 pub enum Found {
@@ -102,6 +104,22 @@ pub fn landing(at: usize, n: u16, k: u8, fields: &[u8]) -> Found
                 return Found::Fault(SheetFault::NoSuchSite(at));
             }
             Found::Item(Record::Landing { terminal, node })
+        }
+    }
+}
+
+// `SR`.
+pub fn sender(at: usize, n: u16, fields: &[u8]) -> Found
+    ensures { λ r. ⌜ r ≡ senderFound at n (senderFields (now (fields .entry))) ⌝ }
+{
+    let read = sender_fields(fields);
+    match read {
+        SenderFields::Short => Found::Fault(SheetFault::ShortSheet(at)),
+        SenderFields::Fields { node } => {
+            if n <= node {
+                return Found::Fault(SheetFault::NoSuchSite(at));
+            }
+            Found::Item(Record::Sender { node })
         }
     }
 }

@@ -5,7 +5,7 @@ use mathlib.Core.List.{List, [], _∷_}
 use lib.ListN.{getD}
 use Rattle.lists.specs.Joined.{joined}
 use Rattle.records.specs.declared.record.Record.{Record}
-use Rattle.records.specs.declared.record.Record.the-variants.{OneWay, BothWays, Landing}
+use Rattle.records.specs.declared.record.Record.the-variants.{OneWay, BothWays, Landing, Sender}
 
 -- a leg: a one-way link from its start to its end, with a price in cents
 pub record Arc : Type 0 where
@@ -21,6 +21,7 @@ abbrev pub arcsOf : Record → List Arc
 arcsOf (OneWay start end weight) = arc start end weight ∷ []
 arcsOf (BothWays start end weight) = arc start end weight ∷ arc end start weight ∷ []
 arcsOf (Landing terminal node) = []
+arcsOf (Sender node) = []
 
 -- the legs of a list of records; a leg's number is its place in this list
 abbrev pub arcs : List Record → List Arc

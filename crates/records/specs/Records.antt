@@ -7,7 +7,7 @@ use mathlib.Core.List.{List, [], _∷_, _++_}
 use lib.ListN.{length}
 use lib.Dec.{ltb}
 use Rattle.limits.specs.Limits.{minWeight, maxWeight}
-use Rattle.limits.specs.Marks.{markHD, markLK, markBK, markST, markED}
+use Rattle.limits.specs.Marks.{markHD, markLK, markBK, markST, markSR, markED}
 use Rattle.lists.specs.Joined.{joined}
 use Rattle.number_fields.specs.Fields.{number8, number16, number32, bytes16, bytes32}
 use Rattle.records.specs.declared.fields.HeadFields.{HeadFields}
@@ -18,8 +18,10 @@ use Rattle.records.specs.declared.fields.LinkFields.the-variants.{Short 
 use Rattle.records.specs.declared.fields.Landing.{Landing as LandingAt}
 use Rattle.records.specs.declared.fields.LandingFields.{LandingFields}
 use Rattle.records.specs.declared.fields.LandingFields.the-variants.{Short as NoLanding, Fields as LandingOf}
+use Rattle.records.specs.declared.fields.SenderFields.{SenderFields}
+use Rattle.records.specs.declared.fields.SenderFields.the-variants.{Short as NoSender, Fields as SenderOf}
 use Rattle.records.specs.declared.record.Record.{Record}
-use Rattle.records.specs.declared.record.Record.the-variants.{OneWay, BothWays, Landing}
+use Rattle.records.specs.declared.record.Record.the-variants.{OneWay, BothWays, Landing, Sender}
 
 -- `HD`: sites n (2 bytes), stations k (1)
 abbrev pub headFields : List ℕ → HeadFields
@@ -39,6 +41,10 @@ landingIn bytes = record { terminal = number8 bytes 0; node = number16 bytes 1 }
 abbrev pub landingFields : List ℕ → LandingFields
 landingFields bytes = cond (ltb (length bytes) 3) NoLanding (LandingOf (landingIn bytes .terminal) (landingIn bytes .node))
 
+-- `SR`: site (2)
+abbrev pub senderFields : List ℕ → SenderFields
+senderFields bytes = cond (ltb (length bytes) 2) NoSender (SenderOf (number16 bytes 0))
+
 -- the bytes of the head, of a record and of the end
 abbrev pub headBytes : ℕ → ℕ → List ℕ
 headBytes n k = bytes16 markHD ++ bytes16 n ++ (k ∷ [])
@@ -47,6 +53,7 @@ abbrev pub recordBytes : Record → List ℕ
 recordBytes (OneWay start end weight) = bytes16 markLK ++ bytes16 start ++ bytes16 end ++ bytes32 weight
 recordBytes (BothWays start end weight) = bytes16 markBK ++ bytes16 start ++ bytes16 end ++ bytes32 weight
 recordBytes (Landing terminal node) = bytes16 markST ++ (terminal ∷ []) ++ bytes16 node
+recordBytes (Sender node) = bytes16 markSR ++ bytes16 node
 
 abbrev pub endBytes : List ℕ
 endBytes = bytes16 markED
@@ -80,3 +87,4 @@ abbrev pub RecordOk : ℕ → ℕ → Record → Type 0
 RecordOk n k (OneWay start end weight) = LinkOk n start end weight
 RecordOk n k (BothWays start end weight) = LinkOk n start end weight
 RecordOk n k (Landing terminal node) = (terminal < k) × (node < n)
+RecordOk n k (Sender node) = node < n

@@ -4,7 +4,7 @@ use number_fields::u32_at;
 ghost use mathlib.Core.Path.{_≡_};
 ghost use Prim.Native.Nat.{_≤_};
 ghost use lib.ListN.{length};
-ghost use Rattle.records.specs.Records.{headFields, linkIn, linkFields, landingIn, landingFields};
+ghost use Rattle.records.specs.Records.{headFields, linkIn, linkFields, landingIn, landingFields, senderFields};
 
 // What `HD` says: sites, stations.
 pub enum HeadFields {
@@ -33,6 +33,12 @@ pub struct Landing {
 pub enum LandingFields {
     Short,
     Fields { terminal: u8, node: u16 },
+}
+
+// What `SR` says, where the bytes may be too short: a site.
+pub enum SenderFields {
+    Short,
+    Fields { node: u16 },
 }
 
 // The fields of `HD`, where the bytes after the mark are long enough.
@@ -97,5 +103,17 @@ pub fn landing_fields(fields: &[u8]) -> LandingFields
     LandingFields::Fields {
         terminal: landing.terminal,
         node: landing.node,
+    }
+}
+
+// The field of `SR`, where the bytes after the mark are long enough.
+pub fn sender_fields(fields: &[u8]) -> SenderFields
+    ensures { λ r. ⌜ r ≡ senderFields (now (fields .entry)) ⌝ }
+{
+    if fields.len() < 2 {
+        return SenderFields::Short;
+    }
+    SenderFields::Fields {
+        node: u16_at(fields, 0),
     }
 }

@@ -13,14 +13,18 @@ pub enum Record {
     BothWays { start: u16, end: u16, weight: u32 },
     // `ST`: a landing, a site where the station can be heard.
     Landing { terminal: u8, node: u16 },
+    // `SR`: a site that may open a plan.
+    Sender { node: u16 },
 }
 
-// The bytes of `HD`, of `LK` or `BK`, of `ST` and of `ED`, each with its mark.
+// The bytes of `HD`, of `LK` or `BK`, of `ST`, of `SR` and of `ED`, each with its mark.
 pub const HEAD_SIZE: usize = 5;
 
 pub const LINK_SIZE: usize = 10;
 
 pub const LANDING_SIZE: usize = 5;
+
+pub const SENDER_SIZE: usize = 4;
 
 pub const END_SIZE: usize = 2;
 
@@ -44,6 +48,7 @@ impl Record {
                 terminal: _,
                 node: _,
             } => LANDING_SIZE,
+            Record::Sender { node: _ } => SENDER_SIZE,
         }
     }
 
@@ -66,6 +71,7 @@ impl Record {
                 terminal: _,
                 node: _,
             } => 0,
+            Record::Sender { node: _ } => 0,
         }
     }
 
@@ -86,6 +92,7 @@ impl Record {
                 weight: _,
             } => Subset::EMPTY,
             Record::Landing { terminal, node: _ } => Subset::single(terminal),
+            Record::Sender { node: _ } => Subset::EMPTY,
         }
     }
 }

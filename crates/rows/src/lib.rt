@@ -1,7 +1,7 @@
 // The cells of one site, one for each set of stations, as they are before the search.
+use landing_entries::terminals_in;
 use limits::Cost;
 use subset::Subset;
-use subset::terminals_in;
 use working_none::WORKING_NONE;
 ghost use mathlib.Core.Path.{_≡_};
 ghost use mathlib.Core.List.{map};

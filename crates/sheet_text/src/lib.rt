@@ -1,10 +1,11 @@
-// What a loading of a sheet gave, as text on standard output: the verdict, the legs and the stations of each site.
+// What a loading of a sheet gave, as text on standard output: the verdict, the legs, the stations of each site, and which sites are senders.
 // Every line ends in a line feed. Where a table is shorter than the counts say, only what it holds is written.
 use answer::Refusal;
 use answer::code_of;
+use landing_entries::is_sender;
+use landing_entries::terminals_in;
 use libc::STDOUT_FILENO;
 use opener::Loaded;
-use subset::terminals_in;
 
 // Writes a text to standard output.
 pub fn print(text: &[u8]) {
@@ -44,6 +45,9 @@ fn print_landing(v: usize, entry: u16) {
     let terminals = terminals_in(entry);
     print_field(b"site ", v as u64);
     print_field(b" stations ", terminals.0 as u64);
+    if is_sender(entry) {
+        print(b" sender");
+    }
     print(b"\n");
 }
 
@@ -57,7 +61,7 @@ fn print_arcs(arcs: u16, starts: &[u16], ends: &[u16], weights: &[u32]) {
     }
 }
 
-// The stations of the sites 0 to n - 1 that the table holds.
+// What the table says of the sites 0 to n - 1.
 fn print_landings(n: u16, landings: &[u16]) {
     let count = n as usize;
     let mut v = 0;

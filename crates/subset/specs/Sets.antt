@@ -6,7 +6,6 @@ use mathlib.Core.Path.{_≡_}
 use mathlib.Core.Bool.{Bool}
 use lib.Dec.{eqb}
 use lib.Bits.{bitAnd, bitOr}
-use Rattle.limits.specs.Limits.{maxTerminals}
 
 -- the empty set
 abbrev pub empty : ℕ
@@ -38,7 +37,3 @@ rest w y = w - bitAnd w y
 -- the stations of either set
 abbrev pub union : ℕ → ℕ → ℕ
 union a b = bitOr a b
-
--- what an entry of the landing sets says of its site: the stations are its lowest ten bits
-abbrev pub terminalsIn : ℕ → ℕ
-terminalsIn entry = entry % 2 ^ maxTerminals

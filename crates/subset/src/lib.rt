@@ -3,7 +3,7 @@ ghost use mathlib.Core.Path.{_≡_};
 ghost use Prim.Native.Nat.{_^_, _≤_, _<_};
 ghost use lib.Count.{ones};
 ghost use Rattle.limits.specs.Limits.{maxTerminals};
-ghost use Rattle.subset.specs.Sets.{full, single, isPart, rest, union, terminalsIn};
+ghost use Rattle.subset.specs.Sets.{full, single, isPart, rest, union};
 
 // A set of stations, as its number.
 pub struct Subset(pub u16);
@@ -55,13 +55,6 @@ impl Subset {
     {
         Subset(self.0 | o.0)
     }
-}
-
-// The stations of a landing entry: its lowest ten bits.
-pub fn terminals_in(entry: u16) -> Subset
-    ensures { λ r. ⌜ r .0 ≡ terminalsIn entry ⌝ }
-{
-    Subset(entry % limits::MAX_SUBSETS)
 }
 
 // How many sets k stations have.

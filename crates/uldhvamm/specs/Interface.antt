@@ -4,4 +4,4 @@
 use Prim.Native.Nat.{ℕ}
 
 abbrev pub interface : ℕ
-interface = 1
+interface = 2

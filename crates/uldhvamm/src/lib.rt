@@ -19,7 +19,7 @@ ghost use Rattle.uldhvamm.specs.Interface.{interface};
 ghost use Rattle.uldhvamm.specs.Returned.{call, callOf};
 
 // The number of the interface: one more where a landing changes the parameters, the widths or the values of a function that stood before.
-const INTERFACE: u32 = 1;
+const INTERFACE: u32 = 2;
 
 // The interface of this library. A caller that was built for another must not call the functions below.
 #[no_mangle]
@@ -90,17 +90,19 @@ pub extern "C" fn uldhvamm_cell(
     give_enquiry(sent, answer)
 }
 
-// The enquirer: the best sender of a subset.
+// The enquirer: the best sender of a subset, by the landing sets.
 #[no_mangle]
-pub extern "C" fn uldhvamm_best_sender(
-    cells: &[Cost],
+pub extern "C" fn uldhvamm_best_sender<'a>(
+    cells: &'a [Cost],
+    landings: &'a [u16],
     sites: u32,
     stations: u32,
     subset: u32,
     answer: &mut [u64],
 ) -> u32
-    ensures { λ r. ⌜ GivesOne (SenderAnswer (now (cells .entry)) sites stations subset) r (now (answer .entry)) (now (answer .exit)) ⌝ }
+    ensures { λ r. ⌜ GivesOne (SenderAnswer (now (cells .entry)) (now (landings .entry)) sites stations subset) r
+        (now (answer .entry)) (now (answer .exit)) ⌝ }
 {
-    let sent = best_sender(cells, sites, stations, subset);
+    let sent = best_sender(cells, landings, sites, stations, subset);
     give_enquiry(sent, answer)
 }

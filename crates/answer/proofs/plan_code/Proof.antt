@@ -24,6 +24,9 @@ enum-told-3 c = search needs
 enum-told-4 : tie.Need-enum-told-4
 enum-told-4 c = search needs
 
+enum-told-5 : tie.Need-enum-told-5
+enum-told-5 c = search needs
+
 returns : tie.Need-returns
 returns c = ap statedPlanFile (sym (c .enum-told .given .1))
 
@@ -42,6 +45,9 @@ returns-5 c = ap statedPlanFile (sym (c .enum-told3 .given .1))
 returns-6 : tie.Need-returns-6
 returns-6 c = ap statedPlanFile (sym (c .enum-told4 .given .1))
 
+returns-7 : tie.Need-returns-7
+returns-7 c = ap statedPlanFile (sym (c .enum-told5 .given .1))
+
 pub plan-code-spec : {M : Type 1} → statement M
 plan-code-spec =
     tie.close
@@ -52,9 +58,11 @@ plan-code-spec =
     enum-told-2
     enum-told-3
     enum-told-4
+    enum-told-5
     returns
     returns-2
     returns-3
     returns-4
     returns-5
-    returns-6)
+    returns-6
+    returns-7)

@@ -5,11 +5,11 @@ use mathlib.Core.Path.{_≡_, refl, sym, ap, _∙_}
 use mathlib.Core.Bool.{cond}
 use native.Mathlib.Omega.{arith}
 use lib.Dec.{eqb}
-use Rattle.limits.specs.Refusals.{shortSheet, strangeMark, badHead, noSuchSite, noSuchStation, loop, badPrice, tooManyLegs, afterTheEnd, unheard, shortTables, noPlan, shortBuffer, cutPlan, badPlan, unknownNumber, noTree, stationMissed}
+use Rattle.limits.specs.Refusals.{shortSheet, strangeMark, badHead, noSuchSite, noSuchStation, loop, badPrice, tooManyLegs, afterTheEnd, unheard, shortTables, noPlan, shortBuffer, cutPlan, badPlan, unknownNumber, noTree, stationMissed, falseTotal}
 use Rattle.answer.specs.declared.SheetFault.the-variants.{ShortSheet, StrangeMark, BadHead, NoSuchSite, NoSuchStation, Loop, BadPrice, TooManyLegs, AfterTheEnd, Unheard}
 use Rattle.answer.specs.declared.TableFault.the-variants.{ShortTables, ShortBuffer}
 use Rattle.answer.specs.declared.SearchFault.the-variants.{NoPlan}
-use Rattle.answer.specs.declared.PlanFault.the-variants.{CutPlan, BadPlan, UnknownNumber, NoTree, StationMissed, FalseTotal}
+use Rattle.answer.specs.declared.PlanFault.the-variants.{CutPlan, BadPlan, UnknownNumber, NoTree, StationMissed, FalseTotal, NotASender}
 use Rattle.answer.specs.declared.Refusal.{Refusal}
 use Rattle.answer.specs.declared.Refusal.the-variants.{Sheet, Tables, Search, PlanFile}
 use Rattle.answer.specs.declared.Answer.{Answer}
@@ -39,7 +39,8 @@ refusalAt number place =
     cond (eqb number unknownNumber) (PlanFile (UnknownNumber place)) (
     cond (eqb number noTree) (PlanFile NoTree) (
     cond (eqb number stationMissed) (PlanFile StationMissed) (
-    PlanFile FalseTotal))))))))))))))))))
+    cond (eqb number falseTotal) (PlanFile FalseTotal) (
+    PlanFile NotASender)))))))))))))))))))
 
 -- a value found from what is stated, where it is known for each kind of answer
 module _ {A : Type 0} (onPlan : ℕ → ℕ → ℕ → A) (onCell onSender : ℕ → A) (onNone : A) (onRefusal : Refusal → A) where
@@ -71,6 +72,7 @@ module _ {A : Type 0} (onPlan : ℕ → ℕ → ℕ → A) (onCell onSender : �
   find-refusal (PlanFile NoTree) = refl
   find-refusal (PlanFile StationMissed) = refl
   find-refusal (PlanFile FalseTotal) = refl
+  find-refusal (PlanFile NotASender) = refl
 
 -- any refusal, for the cases that do not arise
 anyRefusal : Refusal

@@ -1,7 +1,7 @@
 -- `best_plan::best_plan` meets its contract.
 -- Assumes nothing.
-use native.Mathlib.Omega.{arith}
-use Rattle.best_plan.specs.laws.Best.{full-lt, of-full, none-sent}
+use Rattle.best_plan.specs.laws.Best.{of-full, none-sent}
+use Rattle.layout.specs.laws.Roots.{full-in}
 use borrow.Author.Needs.{needs}
 use Rattle.best_plan.proofs.best_plan.Statement.{statement}
 use Rattle.best_plan.proofs.best_plan.Tie as tie
@@ -12,16 +12,16 @@ best-root-requires c κs = search needs
 full-requires : tie.Need-full-requires
 full-requires c κs = search needs
 
-cell-requires : tie.Need-cell-requires
-cell-requires c κs =
+sender-cell-requires : tie.Need-sender-cell-requires
+sender-cell-requires c κs =
     let pre = c .before .before .before .before .before .before .before .before .pre in
-    (pre .ready .terminals, omega (arith, full-lt pre _ (c .before .best-root .ensures), c .full .ensures))
+    (pre .ready .terminals, pre .ready .long-cells, pre .ready .long .landings, full-in _ _ (c .full .ensures), c .before .best-root .ensures .below)
 
 returns : tie.Need-returns
 returns c =
     let pre = c .before .before .before .before .before .before .before .before .before .before .pre in
     none-sent pre _ (c .before .before .before .best-root .ensures) _
-    (of-full pre (c .before .before .before .best-root .result) (c .before .before .full .result .0) (c .before .cell .result) (c .before .cell .ensures) (c .before .before .full .ensures)) (c .if1 .taken) _
+    (of-full pre (c .before .before .before .best-root .result) (c .before .before .full .result .0) (c .before .sender-cell .result) (c .before .sender-cell .ensures) (c .before .before .full .ensures)) (c .if1 .taken) _
 
 lay-best-requires : tie.Need-lay-best-requires
 lay-best-requires c κs =
@@ -29,7 +29,7 @@ lay-best-requires c κs =
       pre,
       record {
         lowest = c .before .before .before .before .best-root .ensures;
-        of-root = of-full pre (c .before .before .before .before .best-root .result) (c .before .before .before .full .result .0) (c .before .before .cell .result) (c .before .before .cell .ensures) (c .before .before .before .full .ensures);
+        of-root = of-full pre (c .before .before .before .before .best-root .result) (c .before .before .before .full .result .0) (c .before .before .sender-cell .result) (c .before .before .sender-cell .ensures) (c .before .before .before .full .ensures);
         some-cost = c .before .if1 .left;
       },
     )
@@ -46,7 +46,7 @@ best-plan-spec =
     (tie.spec
     best-root-requires
     full-requires
-    cell-requires
+    sender-cell-requires
     returns
     lay-best-requires
     same-length

@@ -3,7 +3,7 @@
 use mathlib.Core.Path.{sym}
 use native.Mathlib.Omega.{arith}
 use lib.Seq.{length-take-le}
-use Rattle.best_plan.specs.laws.Best.{few-laid, plan-fits, plan-sent}
+use Rattle.best_plan.specs.laws.Best.{on, finite-root, few-laid, plan-fits, plan-sent}
 use borrow.Author.Needs.{needs}
 use Rattle.best_plan.proofs.lay_best.Statement.{statement}
 use Rattle.best_plan.proofs.lay_best.Tie as tie
@@ -12,7 +12,9 @@ slice-aggregate-lay-out : tie.Need-slice-aggregate-lay-out
 slice-aggregate-lay-out c = search needs
 
 lay-out-requires : tie.Need-lay-out-requires
-lay-out-requires c κs = search needs
+lay-out-requires c κs =
+    let pre = c .before .before .before .before .before .before .before .pre in
+    (pre .0 .ready, (on (pre .0) (pre .1), finite-root (pre .0) (pre .1), omega (arith, pre .0 .few-nodes)))
 
 array-share-prefix-listed : tie.Need-array-share-prefix-listed
 array-share-prefix-listed c =

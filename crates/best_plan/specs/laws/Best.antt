@@ -1,14 +1,13 @@
 -- The plan as the code finds it: from the root and the cells of a finished cost table, and what is sent back of it with the plan buffer. The
 -- tables themselves stay as the search left them.
 -- Assumes nothing.
-use Prim.Native.Nat.{ℕ, _+_, _-_, _*_, _^_, _≤_, _<_}
+use Prim.Native.Nat.{ℕ, _-_, _*_, _^_, _≤_, _<_}
 use mathlib.Core.Path.{_≡_, refl, sym, ap, ap₂, _∙_, subst}
 use mathlib.Core.Logic.{_≢_}
 use mathlib.Core.Bool.{Bool, true, false, cond}
 use mathlib.Core.Option.{Option, none, some}
 use mathlib.Core.List.{List}
 use native.Mathlib.Omega.{arith}
-use lib.Arith.{digits-lt}
 use lib.Dec.{T, leb}
 use lib.ListN.{length, take, drop}
 use lib.Pow.{ones-lt}
@@ -17,7 +16,7 @@ use Rattle.limits.specs.Limits.{maxNodes, maxArcs, noCost}
 use Rattle.limits.specs.Refusals.{noPlan, shortBuffer}
 use Rattle.lists.specs.Every.{every-imp}
 use Rattle.lists.specs.Over.{over, length-over}
-use Rattle.lists.specs.Tests.{by-test}
+use Rattle.lists.specs.Tests.{by-test, choice-passed}
 use Rattle.subset.specs.Sets.{full}
 use Rattle.subset.specs.laws.Parts.{full-ne}
 use Rattle.answer.specs.Stated.{Stated, plan, refused, ofTables, ofSearch}
@@ -27,7 +26,8 @@ use Rattle.graph.specs.LeastTotals.{leastCell, IsCostTable}
 use Rattle.graph.specs.Layout.{rootOf, layout}
 use Rattle.graph.specs.Theorems.{Laid, layout-is-least, root-rule, same-root, same-layout}
 use Rattle.cost_table.specs.Cells.{cellIn, costTable}
-use Rattle.cost_table.specs.Cheapest.{LowestTo}
+use Rattle.landing_entries.specs.Entries.{isSenderAt}
+use Rattle.cost_table.specs.Cheapest.{senderColumn, LowestTo}
 use Rattle.cost_table.specs.laws.Rows.{length-table, table-over}
 use Rattle.lent_tables.specs.SheetTables.{SheetTables}
 use Rattle.lent_tables.specs.Lengths.{cellsAndMarks}
@@ -39,7 +39,7 @@ use Rattle.planfile.specs.declared.write.Written.{Written}
 use Rattle.planfile.specs.declared.write.Written.the-variants.{File, ShortBuffer, NoFile}
 use Rattle.layout_walk.specs.Plan.{laid, Ready}
 use Rattle.layout.specs.Root.{fullCellIn}
-use Rattle.layout.specs.laws.Roots.{lowest-root}
+use Rattle.layout.specs.laws.Roots.{lowest-root, lowest-none}
 use Rattle.mission.specs.Runs.{EngineTables, withBuffer, run}
 use Rattle.best_plan.specs.Plan.{fullCell, Plan, planWith, allNone, planAt, planUnless, planOf, written, sentBack}
 use Rattle.best_plan.specs.laws.Laid.{Plannable}
@@ -115,10 +115,10 @@ pub record FinishedSheet (n k m : ℕ) (t : SheetTables) (cells : List ℕ) : Ty
   pub few-arcs : m ≤ maxArcs
   pub ready : Ready n k m t cells
 
--- the root, with its full-set cell, which is finite
-pub record FiniteRoot (n k : ℕ) (cells : List ℕ) (root cost : ℕ) : Type 0 where
-  pub lowest : LowestTo (fullCellIn k cells) n root
-  pub of-root : cost ≡ cellIn cells (2 ^ k) root (full k)
+-- the root, with its full-set cell, as that of a sender, which is finite
+pub record FiniteRoot (n k : ℕ) (cells landings : List ℕ) (root cost : ℕ) : Type 0 where
+  pub lowest : LowestTo (fullCellIn k cells landings) n root
+  pub of-root : cost ≡ fullCellIn k cells landings root
   pub some-cost : cost ≢ noCost
 
 module _ {n k m : ℕ} {t : SheetTables} {cells : List ℕ} (F : FinishedSheet n k m t cells) where
@@ -136,46 +136,45 @@ module _ {n k m : ℕ} {t : SheetTables} {cells : List ℕ} (F : FinishedSheet n
   }
 
   -- the cell of the full set, as it is read
-  pub of-full : (root w cost : ℕ) → cost ≡ cellIn cells (2 ^ k) root w → w ≡ full k → cost ≡ cellIn cells (2 ^ k) root (full k)
-  of-full root w cost e q = e ∙ ap (cellIn cells (2 ^ k) root) q
+  pub of-full : (root w cost : ℕ) → cost ≡ senderColumn cells (t .landings) k w root → w ≡ full k → cost ≡ fullCellIn k cells (t .landings) root
+  of-full root w cost e q = e ∙ ap (λ (x : ℕ). senderColumn cells (t .landings) k x root) q
 
-  module _ (root : ℕ) (is : LowestTo (fullCellIn k cells) n root) where
-    root-is : rootOf G (leastCell G noCost) ≡ some root
-    root-is = sym (same-root G (cellIn cells (2 ^ k)) (leastCell G noCost) table) ∙ lowest-root n k m t cells root is
+  -- what is in the cell of a node and the full set
+  cell-is : (v : ℕ) → v < n → cellIn cells (2 ^ k) v (full k) ≡ fullCell G v
+  cell-is v on = table v (full k) on (ones-lt k)
 
-    pub root-lt : root < n
-    root-lt = root-rule G (leastCell G noCost) root root-is .node
-
-    pub full-lt : root * 2 ^ k + full k < length cells
-    full-lt = let l = digits-lt root-lt (ones-lt k) in omega (arith, F .ready .long-cells)
-
-    cell-is : cellIn cells (2 ^ k) root (full k) ≡ fullCell G root
-    cell-is = table root (full k) root-lt (ones-lt k)
-
+  module _ (root : ℕ) (is : LowestTo (fullCellIn k cells (t .landings)) n root) where
     -- 12
-    pub none-sent : (cost : ℕ) → cost ≡ cellIn cells (2 ^ k) root (full k) → cost ≡ noCost → (buffer : List ℕ)
+    pub none-sent : (cost : ℕ) → cost ≡ fullCellIn k cells (t .landings) root → cost ≡ noCost → (buffer : List ℕ)
         → SentBack (planOf G) (refused ofSearch noPlan 0) buffer buffer
     unfolding planOf
     none-sent cost of-root none-here buffer = record { sent = λ lent. sym (ap (λ (o : Option Plan). sentBack o (withBuffer buffer lent)) no-plan) }
       where
         each : (v : ℕ) → v < n → T (G .mayRoot v) → fullCell G v ≡ noCost
-        each v on may = omega (arith, cell-is, root-rule G (leastCell G noCost) root root-is .cheapest v on may, full-capped G plannable v on)
+        each v on may =
+            omega (arith, cell-is v on, lowest-none n k m t cells root is (omega (arith, of-root, none-here)) v on may, full-capped G plannable v on)
 
         no-plan : planOf G ≡ none
         no-plan = ap (λ (b : Bool). planUnless b G) (all-none-of G each)
 
-  module _ {root cost : ℕ} (R : FiniteRoot n k cells root cost) where
+  module _ {root cost : ℕ} (R : FiniteRoot n k cells (t .landings) root cost) where
     pub on : root < n
-    on = root-lt root (R .lowest)
-
-    is-root : rootOf G (leastCell G noCost) ≡ some root
-    is-root = root-is root (R .lowest)
+    on = R .lowest .below
 
     is-cell : cellIn cells (2 ^ k) root (full k) ≡ fullCell G root
-    is-cell = cell-is root (R .lowest)
+    is-cell = cell-is root on
+
+    -- the cost is the cell's
+    cost-is : cost ≡ cellIn cells (2 ^ k) root (full k)
+    cost-is = R .of-root ∙ choice-passed (isSenderAt (t .landings) root) (cellIn cells (2 ^ k) root (full k)) noCost (λ e. R .some-cost (R .of-root ∙ e)) .1
 
     pub finite-root : cellIn cells (2 ^ k) root (full k) < noCost
-    finite-root = omega (arith, is-cell, full-capped G plannable root on, R .of-root, R .some-cost)
+    finite-root = omega (arith, is-cell, full-capped G plannable root on, cost-is, R .some-cost)
+
+    is-root : rootOf G (leastCell G noCost) ≡ some root
+    is-root =
+        sym (same-root G (cellIn cells (2 ^ k)) (leastCell G noCost) table)
+        ∙ lowest-root n k m t cells root (R .lowest) (omega (arith, finite-root, cost-is, R .of-root))
 
     arcs-are : laid G cells root (full k) ≡ layout G (leastCell G noCost) noCost root (full k)
     arcs-are = same-layout G (plannable .sound) (cellIn cells (2 ^ k)) (leastCell G noCost) noCost table root (full k) on (ones-lt k)
@@ -184,12 +183,12 @@ module _ {n k m : ℕ} {t : SheetTables} {cells : List ℕ} (F : FinishedSheet n
     unfolding planOf
     plan-is =
         ap (λ (b : Bool). planUnless b G) some-finite ∙ ap (planAt G) is-root
-        ∙ ap₂ (λ (x : ℕ) (l : List ℕ). some (planWith root x l)) (sym (R .of-root ∙ is-cell)) (sym arcs-are)
+        ∙ ap₂ (λ (x : ℕ) (l : List ℕ). some (planWith root x l)) (sym (cost-is ∙ is-cell)) (sym arcs-are)
       where
         some-finite : allNone G ≡ false
         some-finite =
             by-test (allNone G) (λ b. b ≡ false)
-            (λ q. absurd (R .some-cost (R .of-root ∙ is-cell ∙ all-none-at G q root on (root-rule G (leastCell G noCost) root is-root .may))))
+            (λ q. absurd (R .some-cost (cost-is ∙ is-cell ∙ all-none-at G q root on (root-rule G (leastCell G noCost) root is-root .may))))
             (λ q. refl)
 
     -- the arcs are a subtree's
@@ -215,7 +214,7 @@ module _ {n k m : ℕ} {t : SheetTables} {cells : List ℕ} (F : FinishedSheet n
           subst (Fits root cost) (sym taken)
           (record {
             root-fits = small;
-            total-fits = omega (arith, finite-root, R .of-root);
+            total-fits = omega (arith, finite-root, cost-is);
             count-fits = omega (arith, least .few, F .few-nodes);
             arcs-fit = every-imp (λ e. e < m) (λ e. e < 2 ^ 16) (λ e on. omega (arith, F .few-arcs)) (laid G cells root (full k)) (least .subtree .on-graph);
           })

@@ -1,6 +1,7 @@
 -- Document 01, "Agreed": "These worthless engines are shut out: "no plan" without a search, by point 3; the same plan for every sheet, by point
 -- 2; refusing every sheet, by points 2 and 3; an untouched buffer called a plan, by point 2; a leg count other than the legs listed, by point
--- 2." Of any engine and any plan reader, at the worked sheets B and D and the tables that are lent there.
+-- 2." Of any engine and any plan reader, at the worked sheets B and D and the tables that are lent there. B and D have no `SR`, so each of their sites
+-- is a sender. Since senders are licensed (document 02, W-201), an engine that takes its root among all sites is shut out too, by point 2.
 -- Assumes nothing.
 use Prim.Native.Nat.{ℕ, _+_, _*_, _≤_, _<_}
 use mathlib.Core.Path.{_≡_, refl, sym, ap, ap₂, _∙_}
@@ -21,6 +22,7 @@ use Rattle.answer.specs.Stated.{Family, Stated, plan, refused, ofSearch}
 use Rattle.number_fields.specs.Fields.{Bytes, number16, number32}
 use Rattle.sheet.specs.Verdict.{good, verdict, readFor}
 use Rattle.sheet.specs.Worked.{sheetB, sheetD}
+use Rattle.records.specs.Senders.{isSender}
 use Rattle.records.specs.declared.record.Record.{Record}
 use Rattle.records.specs.declared.record.Record.the-variants.{BothWays, Landing}
 use Rattle.network.specs.Network.{graphOf}
@@ -30,9 +32,10 @@ use Rattle.planfile.specs.laws.Encoded.{encoding-fields}
 use Rattle.mission.specs.Runs.{EngineTables, EngineLong, Engine, ReaderTables, readerTables, ReaderLong, Reader}
 use Rattle.mission.specs.Rule.{ByRule}
 use Rattle.mission.specs.laws.OnePlan.{one-plan}
-use Rattle.mission.specs.PointTwo.{EncodesPlan, EngineSound, EnginePointTwo, ReaderPointTwo}
+use Rattle.mission.specs.PointTwo.{IsPlan, EncodesPlan, EngineSound, EnginePointTwo, ReaderPointTwo}
 use Rattle.mission.specs.PointThree.{SomeReachesAll, BufferLong, PointThree}
 use Rattle.mission.specs.laws.PointLaws.{refused-not-plan, same-sheet}
+use Rattle.mission.specs.laws.SheetWords.{sheet-may-root}
 use Rattle.best_plan.specs.Plan.{Plan, planOf}
 use Rattle.best_plan.specs.laws.Found.{found-reaches, sheet-plannable, sheet-found}
 use Rattle.cases.specs.Worked.{lent}
@@ -232,3 +235,15 @@ module _ (engine : Engine) (read : Reader) where
       → engine sheet t .answer ≡ plan root cost count → countIn (engine sheet t .after .buffer) ≡ count
   count-stands point sheet bytes t root cost count told =
       plan-stands read sheet t (engine sheet t .after) (engine sheet t .answer) (point sheet bytes t) root cost count told .count-is
+
+  -- a root taken among all sites, by point 2: the root of a plan is a sender of the sheet
+  pub any-root-shut-out : EnginePointTwo engine read → (sheet : List ℕ) → Bytes sheet → (n k : ℕ) (records : List Record)
+      → verdict sheet ≡ good n k records → (t : EngineTables) (root cost count : ℕ) → engine sheet t .answer ≡ plan root cost count
+      → (T (isSender records root) → ⊥) → ⊥
+  any-root-shut-out point sheet bytes n k records e t root cost count told no-sender =
+      let given = point sheet bytes t root cost count told in
+      let listed = given .holds .plan-written .listed in
+      let p : IsPlan (graphOf n k records) root cost listed =
+      same-sheet (λ n k records. IsPlan (graphOf n k records) root cost listed) sheet (given .good-sheet) e (given .holds .plan-written .is-plan) in
+      let (sender, _) = sheet-may-root n k records root in
+      no-sender (sender (p .may-root) .1)

@@ -1,4 +1,5 @@
--- `enquirer::best_sender` meets its contract: a walk of its MIR, by hand, as that of `enquirer::cell`, with one number less.
+-- `enquirer::best_sender` meets its contract: a walk of its MIR, by hand, as that of `enquirer::cell`, with the landing sets in the place of a
+-- number. A `&[u16]` is Copy, so that what it owns is had twice: one copy goes to the method, the other is kept for the exit.
 -- Assumes nothing.
 use mathlib.Core.Path.{refl}
 use Prim.Native.Nat.{ℕ, _<_, _^_}
@@ -19,11 +20,11 @@ use types.Run.{look, init, forget, stop, from, load, and-then, no-more, land, re
 use sound.WpLaws.{FmC, fmOf, WpFn-mono}
 use denote.RattleType.{owns}
 use denote.Laws.{Is, shows}
-use denote.Builtin.{u32}
+use denote.Builtin.{u16, u32}
 use denote.Plain.{uint-makes, uint-vals, uint-tells}
 use denote.Ref.{RefT, NamedLft, now}
 use denote.Signature.{plain}
-use denote.Slice.{ShrSlice, slice-vals, shr-slice-tells, shr-slice-lawful}
+use denote.Slice.{ShrSlice, slice-vals, shr-slice-tells, shr-slice-lawful, shr-slice-copy}
 use denote.Steps.{peeks, heard, nothing, owned}
 use denote.Enum.Laws as EL
 use denote.Struct.Laws as LL
@@ -39,7 +40,7 @@ use Rattle.answer.specs.Stated.{statedEnquiry}
 use Rattle.questions.specs.Questions.{SenderAnswer}
 use Rattle.enquirer.specs.declared.Enquirer.{Enquirer}
 use Rattle.answer.specs.declared.Enquiry.{Enquiry}
-use Rattle.enquirer.proofs.Held.{Held, slice-of, OwnedSlice}
+use Rattle.enquirer.proofs.Held.{Held, slice-of, OwnedSlice, OwnedEntries}
 use Rattle.enquirer.proofs.Made.{New, Made, of-made, to-new, goes-new, new-said}
 use Rattle.enquirer.proofs.Enquirer as T
 use Rattle.enquirer.proofs.Enquirer.Laws as T′
@@ -59,89 +60,108 @@ use Rattle.enquirer.proofs.best_sender.Statement as stated
 use Rattle.enquirer.proofs.best_sender.Code as code
 
 abbrev stayed : Stays (ask.ended .signature .params) (ask.ended .kept)
-stayed = (stay-none-slice (0 ∷ []) tt (plain (λ _. u32)) yes, (stay-none (λ _. u32) yes, (stay-none (λ _. u32) yes, (stay-none (λ _. u32) yes, tt))))
+stayed = (stay-none-slice (0 ∷ []) tt (plain (λ _. u32)) yes, (stay-none-slice (0 ∷ []) tt (plain (λ _. u16)) yes, (stay-none (λ _. u32) yes, (stay-none (λ _. u32) yes, (stay-none (λ _. u32) yes, tt)))))
 
 module _ {M : Type 1} (𝓤 : URA M) (H : Heap 𝓤) (A : Atoms 𝓤) (mem : Memory → SProp 𝓤) (run : Routine → Fun 𝓤) where
   -- the contract that the proof cites beside that of `new`
   abbrev Best : Contract 𝓤
   Best = tripleOf 𝓤 H A best.signature (best.spec 𝓤 H A mem run)
 
-module _ {M : Type 1} (𝓤 : URA M) (H : Heap 𝓤) (A : Atoms 𝓤) (W : Given 𝓤 H A) (mem : Memory → SProp 𝓤) (run : Routine → Fun 𝓤) (κ : Lft) (q : Share) (s : RefT (List ℕ)) (n k w : ℕ) (okn : n < 2 ^ 32) (okk : k < 2 ^ 32) (okw : w < 2 ^ 32) where
+module _ {M : Type 1} (𝓤 : URA M) (H : Heap 𝓤) (A : Atoms 𝓤) (W : Given 𝓤 H A) (mem : Memory → SProp 𝓤) (run : Routine → Fun 𝓤) (κ : Lft) (q : Share) (s t : RefT (List ℕ)) (n k w : ℕ) (okn : n < 2 ^ 32) (okk : k < 2 ^ 32) (okw : w < 2 ^ 32) where
   -- what the contract says of the result, and of the struct's answer
   abbrev Says : Enquiry → Type 0
-  Says t = SenderAnswer (now s) n k w (statedEnquiry t)
+  Says x = SenderAnswer (now s) (now t) n k w (statedEnquiry x)
 
   abbrev SaysOf : Enquirer → Enquiry → Type 0
-  SaysOf r t = SenderAnswer (now (r .cells)) (r .n) (r .k) w (statedEnquiry t)
+  SaysOf r x = SenderAnswer (now (r .cells)) (now t) (r .n) (r .k) w (statedEnquiry x)
 
   abbrev at : Vals ask.signature (κ, tt)
-  at = (slice-of s ∷ [], (vint w32 n ∷ [], (vint w32 k ∷ [], (vint w32 w ∷ [], tt))))
+  at = (slice-of s ∷ [], (slice-of t ∷ [], (vint w32 n ∷ [], (vint w32 k ∷ [], (vint w32 w ∷ [], tt)))))
 
   -- the struct's type as a local of a body has it
   abbrev αᵉ : NamedLft
   αᵉ = record { mir = erased; lft = κ }
 
   abbrev Post : Val → SProp 𝓤
-  Post = walkOf 𝓤 H A ask.ended stayed (ask.clauses 𝓤 H A mem run) .post (((κ, tt), (q, tt), tt, (s, (n, (k, (w, tt)))), at), tt)
+  Post = walkOf 𝓤 H A ask.ended stayed (ask.clauses 𝓤 H A mem run) .post (((κ, tt), (q, tt), tt, (s, (t, (n, (k, (w, tt))))), at), tt)
 
-  -- what the function owns on entry gives what `new` asks; what the slice owns is kept
-  goes : ent 𝓤 (onEntry 𝓤 H A ask.signature (κ, tt) (q, tt) (s, (n, (k, (w, tt)))) at) (sep 𝓤 (New 𝓤 H A mem run .pre (to-new 𝓤 H A mem run κ q s n k)) (sem 𝓤 H A (OwnedSlice κ s)))
+  -- what the function owns on entry gives what `new` asks; what the slices own is kept, that of the landing sets twice
+  goes : ent 𝓤 (onEntry 𝓤 H A ask.signature (κ, tt) (q, tt) (s, (t, (n, (k, (w, tt))))) at)
+      (sep 𝓤 (New 𝓤 H A mem run .pre (to-new 𝓤 H A mem run κ q s n k)) (sep 𝓤 (sem 𝓤 H A (OwnedSlice κ s)) (sep 𝓤 (sem 𝓤 H A (OwnedEntries κ t)) (sem 𝓤 H A (OwnedEntries κ t)))))
   goes =
-      qed W ((‵ (flft κ q) ⊛ ‵ ftrue) ∷ ‵ (owns (ShrSlice (named 0) κ u32 ∷ u32 ∷ u32 ∷ u32 ∷ []) (s, (n, (k, (w, tt)))) at) ∷ []) ∵
-      move ! (1 ∷ []) $ fsplit ! $ move ! (1 ∷ []) $ drop ! $ by ! (goes-new 𝓤 H A mem run κ q s n k W okn okk)
+      qed W ((‵ (flft κ q) ⊛ ‵ ftrue) ∷ ‵ (owns (ShrSlice (named 0) κ u32 ∷ ShrSlice (named 0) κ u16 ∷ u32 ∷ u32 ∷ u32 ∷ []) (s, (t, (n, (k, (w, tt))))) at) ∷ []) ∵
+      move ! (1 ∷ []) $ fsplit ! $ move ! (1 ∷ []) $ fsplit ! $ move ! (1 ∷ []) $ drop ! $
+      use1 W (‵ (OwnedEntries κ t) ⊛ ‵ (OwnedEntries κ t)) (shr-slice-copy 𝓤 H A W (named 0) κ u16 .twice t (slice-of t ∷ [])) $ split ! $
+      move ! (2 ∷ 3 ∷ []) $
+      use2 W (raw (New 𝓤 H A mem run .pre (to-new 𝓤 H A mem run κ q s n k)) ⊛ ‵ (OwnedSlice κ s)) (goes-new 𝓤 H A mem run κ q s n k W okn okk) $ split ! $
+      frame ! $ frame ! $ frame ! $ done !
 
   -- the call of `Enquirer::best_sender`, at the struct r with the machine value u
   abbrev to-best : Enquirer → Val → Best 𝓤 H A mem run .Ghost
-  to-best r u = (((κ, tt), (q, tt), tt, (r, (w, tt)), (u ∷ [], (vint w32 w ∷ [], tt))), tt)
+  to-best r u = (((κ, tt), (q, tt), tt, (r, (t, (w, tt))), (u ∷ [], (slice-of t ∷ [], (vint w32 w ∷ [], tt)))), tt)
 
-  goes-best : (r : Enquirer) (u : Val) → ent 𝓤 (⋆ 𝓤 H A (‵ (Held (κ, tt) .own r (u ∷ [])) ∷ (‵ (flft κ q) ⊛ ‵ ftrue) ∷ [])) (Best 𝓤 H A mem run .pre (to-best r u))
-  goes-best r u = qed W (‵ (Held (κ, tt) .own r (u ∷ [])) ∷ (‵ (flft κ q) ⊛ ‵ ftrue) ∷ []) ∵ nothing ! $ owned ! u32 (Is u32) (uint-makes 𝓤 H A W w32) w _ (refl, okw) $ fjoin ! $ move ! (1 ∷ 0 ∷ []) $ fjoin ! $ move ! (1 ∷ 0 ∷ []) $ join ! $ frame ! $ done !
+  goes-best : (r : Enquirer) (u : Val)
+      → ent 𝓤 (⋆ 𝓤 H A ((‵ (Held (κ, tt) .own r (u ∷ [])) ⊛ ‵ (OwnedEntries κ t)) ∷ (‵ (flft κ q) ⊛ ‵ ftrue) ∷ [])) (Best 𝓤 H A mem run .pre (to-best r u))
+  goes-best r u =
+      qed W ((‵ (Held (κ, tt) .own r (u ∷ [])) ⊛ ‵ (OwnedEntries κ t)) ∷ (‵ (flft κ q) ⊛ ‵ ftrue) ∷ []) ∵ split ! $
+      nothing ! $ owned ! u32 (Is u32) (uint-makes 𝓤 H A W w32) w _ (refl, okw) $ fjoin ! $
+      move ! (2 ∷ 0 ∷ []) $ fjoin ! $ move ! (1 ∷ 0 ∷ []) $ fjoin ! $ move ! (1 ∷ 0 ∷ []) $ join ! $ frame ! $ done !
 
-  best-said : (r : Enquirer) (t : Enquiry) → ent 𝓤 (ensured 𝓤 H A best.ended (best.clauses 𝓤 H A mem run) (κ, tt) (r, (w, tt)) tt t) (fact 𝓤 (SaysOf r t))
-  best-said r t = exE 𝓤 _ (λ ws. snd∗ 𝓤 (sem 𝓤 H A (lasts best.ended (κ, tt) (r, (w, tt)) ws)) (fact 𝓤 (SaysOf r t)))
+  best-said : (r : Enquirer) (x : Enquiry) → ent 𝓤 (ensured 𝓤 H A best.ended (best.clauses 𝓤 H A mem run) (κ, tt) (r, (t, (w, tt))) tt x) (fact 𝓤 (SaysOf r x))
+  best-said r x = exE 𝓤 _ (λ ws. snd∗ 𝓤 (sem 𝓤 H A (lasts best.ended (κ, tt) (r, (t, (w, tt))) ws)) (fact 𝓤 (SaysOf r x)))
 
-  exits : (t : Enquiry) (u : Val) → Says t → ent 𝓤 (⋆ 𝓤 H A (‵ (S.the-row .own t (u ∷ [])) ∷ (‵ (flft κ q) ⊛ ‵ ftrue) ∷ ‵ (OwnedSlice κ s) ∷ [])) (Post u)
-  exits t u e =
-      qed W (‵ (S.the-row .own t (u ∷ [])) ∷ (‵ (flft κ q) ⊛ ‵ ftrue) ∷ ‵ (OwnedSlice κ s) ∷ []) ∵
-      suffices ! _ (ends-at 𝓤 H A ask.ended stayed (ask.clauses 𝓤 H A mem run) W (((κ, tt), (q, tt), tt, (s, (n, (k, (w, tt)))), at), tt) u t (tt, (tt, (tt, (tt, tt)))) (tt, (tt, (tt, (tt, tt))))) $ says ! e $
-      move ! (1 ∷ []) $ frame ! $ nothing ! $ owned ! u32 (Is u32) (uint-makes 𝓤 H A W w32) w _ (refl, okw) $ fjoin ! $ owned ! u32 (Is u32) (uint-makes 𝓤 H A W w32) k _ (refl, okk) $ fjoin ! $ owned ! u32 (Is u32) (uint-makes 𝓤 H A W w32) n _ (refl, okn) $ fjoin ! $ move ! (2 ∷ 0 ∷ []) $ fjoin ! $ frame ! $ done !
+  exits : (x : Enquiry) (u : Val) → Says x
+      → ent 𝓤 (⋆ 𝓤 H A (‵ (S.the-row .own x (u ∷ [])) ∷ (‵ (flft κ q) ⊛ ‵ ftrue) ∷ (‵ (OwnedEntries κ t) ⊛ ‵ (OwnedSlice κ s)) ∷ [])) (Post u)
+  exits x u e =
+      qed W (‵ (S.the-row .own x (u ∷ [])) ∷ (‵ (flft κ q) ⊛ ‵ ftrue) ∷ (‵ (OwnedEntries κ t) ⊛ ‵ (OwnedSlice κ s)) ∷ []) ∵
+      suffices ! _ (ends-at 𝓤 H A ask.ended stayed (ask.clauses 𝓤 H A mem run) W (((κ, tt), (q, tt), tt, (s, (t, (n, (k, (w, tt))))), at), tt) u x (tt, (tt, (tt, (tt, (tt, tt))))) (tt, (tt, (tt, (tt, (tt, tt)))))) $ says ! e $
+      move ! (1 ∷ []) $ frame ! $ nothing ! $ owned ! u32 (Is u32) (uint-makes 𝓤 H A W w32) w _ (refl, okw) $ fjoin ! $ owned ! u32 (Is u32) (uint-makes 𝓤 H A W w32) k _ (refl, okk) $ fjoin ! $ owned ! u32 (Is u32) (uint-makes 𝓤 H A W w32) n _ (refl, okn) $ fjoin ! $
+      move ! (2 ∷ []) $ split ! $ move ! (0 ∷ 2 ∷ []) $ fjoin ! $ move ! (1 ∷ 0 ∷ []) $ fjoin ! $ frame ! $ done !
 
   module _ (C : Calls 𝓤 H) (Λ : Loops 𝓤 H) (fm : FmC 𝓤 H (W .laws) C) (known-new : Triple 𝓤 (C #enquirer·new) (New 𝓤 H A mem run)) (known-best : Triple 𝓤 (C #enquirer·best-sender) (Best 𝓤 H A mem run)) where
-    walk : Is (ShrSlice (named 0) κ u32) s (slice-of s ∷ []) → ent 𝓤 (onEntry 𝓤 H A ask.signature (κ, tt) (q, tt) (s, (n, (k, (w, tt)))) at) (WpFn 𝓤 H C Λ code.function (slice-of s ∷ vint w32 n ∷ vint w32 k ∷ vint w32 w ∷ []) Post)
-    walk p =
-        qed W (raw (onEntry 𝓤 H A ask.signature (κ, tt) (q, tt) (s, (n, (k, (w, tt)))) at) ∷ []) ∵ enter ! C Λ code.function (slice-of s ∷ vint w32 n ∷ vint w32 k ∷ vint w32 w ∷ []) _ $
-        alloc1 ! (λ l₀. alloc1 ! (λ l₁. alloc1 ! (λ l₂. alloc1 ! (λ l₃. alloc1 ! (λ l₄. alloc1 ! (λ l₅. alloc0 ! $ params1 ! $ pass1 ! (init ! 8 refl (shr-slice-lawful 𝓤 H A W (named 0) κ u32 .typed s (slice-of s ∷ []) p .0)) $
+    walk : Is (ShrSlice (named 0) κ u32) s (slice-of s ∷ []) → Is (ShrSlice (named 0) κ u16) t (slice-of t ∷ [])
+        → ent 𝓤 (onEntry 𝓤 H A ask.signature (κ, tt) (q, tt) (s, (t, (n, (k, (w, tt))))) at) (WpFn 𝓤 H C Λ code.function (slice-of s ∷ slice-of t ∷ vint w32 n ∷ vint w32 k ∷ vint w32 w ∷ []) Post)
+    walk p p′ =
+        qed W (raw (onEntry 𝓤 H A ask.signature (κ, tt) (q, tt) (s, (t, (n, (k, (w, tt))))) at) ∷ []) ∵ enter ! C Λ code.function (slice-of s ∷ slice-of t ∷ vint w32 n ∷ vint w32 k ∷ vint w32 w ∷ []) _ $
+        alloc1 ! (λ l₀. alloc1 ! (λ l₁. alloc1 ! (λ l₂. alloc1 ! (λ l₃. alloc1 ! (λ l₄. alloc1 ! (λ l₅. alloc1 ! (λ l₆. alloc0 ! $ params1 ! $
+        pass1 ! (init ! 10 refl (shr-slice-lawful 𝓤 H A W (named 0) κ u32 .typed s (slice-of s ∷ []) p .0)) $
+        pass1 ! (init ! 8 refl (shr-slice-lawful 𝓤 H A W (named 0) κ u16 .typed t (slice-of t ∷ []) p′ .0)) $
         pass1 ! (init ! 6 refl (tt, record { fits = okn })) $ pass1 ! (init ! 4 refl (tt, record { fits = okk })) $ pass1 ! (init ! 2 refl (tt, record { fits = okw })) $ pass0 ! $
-        move ! (12 ∷ []) $ use1 W (raw (New 𝓤 H A mem run .pre (to-new 𝓤 H A mem run κ q s n k)) ⊛ ‵ (OwnedSlice κ s)) goes $ split ! $
-        calls-at ! fm (New 𝓤 H A mem run) known-new (to-new 𝓤 H A mem run κ q s n k) (and-then ! (load ! (from ! (stop !)) (look ! 10 refl)) (and-then ! (load ! (from ! (stop !)) (look ! 8 refl)) (and-then ! (load ! (from ! (stop !)) (look ! 6 refl)) (no-more !)))) (λ u.
+        move ! (14 ∷ []) $
+        use1 W (raw (New 𝓤 H A mem run .pre (to-new 𝓤 H A mem run κ q s n k)) ⊛ (‵ (OwnedSlice κ s) ⊛ (‵ (OwnedEntries κ t) ⊛ ‵ (OwnedEntries κ t)))) goes $ split ! $
+        calls-at ! fm (New 𝓤 H A mem run) known-new (to-new 𝓤 H A mem run κ q s n k) (and-then ! (load ! (from ! (stop !)) (look ! 12 refl)) (and-then ! (load ! (from ! (stop !)) (look ! 8 refl)) (and-then ! (load ! (from ! (stop !)) (look ! 6 refl)) (no-more !)))) (λ u.
         use1 W (later (some (λ (r : Enquirer). ((‵ (flft κ q) ⊛ ‵ ftrue) ⊛ ‵ (Held (κ, tt) .own r (u ∷ []))) ⊛ raw (ensured 𝓤 H A new.ended (new.clauses 𝓤 H A mem run) (κ, tt) (s, (n, (k, tt))) tt r)))) (id⊢ 𝓤 _) $ await ! tt $ pick ! (λ r.
         split ! $ move ! (1 ∷ []) $ use1 W (raw (fact 𝓤 (Made s n k r))) (new-said 𝓤 H A mem run κ q s n k r) $ heard ! (Made s n k r) (λ e. split ! $ move ! (1 ∷ []) $
-        -- [what the struct owns; the token; what s owns; room for _5; …; _4; …; _1; …; room for _0; …]
+        -- [what the struct owns; the token; what the slices own; room for _6; …; _5; …; _1; …; room for _0; …]
         peeks ! (Held (κ, tt)) (Is (Held (κ, tt))) (shows 𝓤 H A (Held (κ, tt))) r (u ∷ []) (λ is.
         land ! (from ! (stop !)) (init ! 3 refl (LL.lawful (T.the-type αᵉ) (T′.the-laws αᵉ) 𝓤 H A W .typed r _ is .0)) $
-        use2 W (raw (Best 𝓤 H A mem run .pre (to-best r u))) (goes-best r u) $
-        calls-at ! fm (Best 𝓤 H A mem run) known-best (to-best r u) (and-then ! (load ! (from ! (stop !)) (look ! 2 refl)) (and-then ! (load ! (from ! (stop !)) (look ! 4 refl)) (no-more !))) (λ u′.
-        use1 W (later (some (λ (t : Enquiry). ((‵ (flft κ q) ⊛ ‵ ftrue) ⊛ ‵ (S.the-row .own t (u′ ∷ []))) ⊛ raw (ensured 𝓤 H A best.ended (best.clauses 𝓤 H A mem run) (κ, tt) (r, (w, tt)) tt t)))) (id⊢ 𝓤 _) $ await ! tt $ pick ! (λ t.
-        split ! $ move ! (1 ∷ []) $ use1 W (raw (fact 𝓤 (SaysOf r t))) (best-said r t) $ heard ! (SaysOf r t) (λ e′. split ! $ move ! (1 ∷ []) $
-        -- [the result; the token; what s owns; _5; …; _1; …; room for _0; …]
-        peeks ! S.the-row (Is S.the-row) (shows 𝓤 H A S.the-row) t (u′ ∷ []) (λ is′.
-        land ! (from ! (stop !)) (init ! 13 refl (EL.lawful S.the-type S′.the-laws 𝓤 H A W tt .typed t _ is′ .0)) $
-        returns ! (look ! 13 refl) $ forget ! 3 refl $ forget ! 5 refl $ forget ! 7 refl $ forget ! 9 refl $ forget ! 11 refl $ forget ! 13 refl $
-        move ! (13 ∷ 14 ∷ []) $ free1 ! $ move ! (11 ∷ 12 ∷ []) $ free1 ! $ move ! (9 ∷ 10 ∷ []) $ free1 ! $ move ! (7 ∷ 8 ∷ []) $ free1 ! $ move ! (5 ∷ 6 ∷ []) $ free1 ! $ move ! (3 ∷ 4 ∷ []) $ free1 ! $ free0 ! $
-        by ! (exits t u′ (of-made (λ cells n k. SenderAnswer (now cells) n k w (statedEnquiry t)) r e e′))))))))))))))))
+        move ! (2 ∷ []) $ split ! $ move ! (1 ∷ []) $ split ! $ move ! (3 ∷ 0 ∷ []) $ join ! $ move ! (0 ∷ 3 ∷ []) $
+        use2 W (raw (Best 𝓤 H A mem run .pre (to-best r u))) (goes-best r u) $ move ! (1 ∷ 2 ∷ []) $ join ! $ move ! (1 ∷ []) $
+        -- [what the method asks; what the slices own; _6; …; _1; …; room for _0; …]
+        calls-at ! fm (Best 𝓤 H A mem run) known-best (to-best r u) (and-then ! (load ! (from ! (stop !)) (look ! 2 refl)) (and-then ! (load ! (from ! (stop !)) (look ! 10 refl)) (and-then ! (load ! (from ! (stop !)) (look ! 4 refl)) (no-more !)))) (λ u′.
+        use1 W (later (some (λ (x : Enquiry). ((‵ (flft κ q) ⊛ ‵ ftrue) ⊛ ‵ (S.the-row .own x (u′ ∷ []))) ⊛ raw (ensured 𝓤 H A best.ended (best.clauses 𝓤 H A mem run) (κ, tt) (r, (t, (w, tt))) tt x)))) (id⊢ 𝓤 _) $ await ! tt $ pick ! (λ x.
+        split ! $ move ! (1 ∷ []) $ use1 W (raw (fact 𝓤 (SaysOf r x))) (best-said r x) $ heard ! (SaysOf r x) (λ e′. split ! $ move ! (1 ∷ []) $
+        -- [the result; the token; what the slices own; _6; …; _1; …; room for _0; …]
+        peeks ! S.the-row (Is S.the-row) (shows 𝓤 H A S.the-row) x (u′ ∷ []) (λ is′.
+        land ! (from ! (stop !)) (init ! 15 refl (EL.lawful S.the-type S′.the-laws 𝓤 H A W tt .typed x _ is′ .0)) $
+        returns ! (look ! 15 refl) $ forget ! 3 refl $ forget ! 5 refl $ forget ! 7 refl $ forget ! 9 refl $ forget ! 11 refl $ forget ! 13 refl $ forget ! 15 refl $
+        move ! (15 ∷ 16 ∷ []) $ free1 ! $ move ! (13 ∷ 14 ∷ []) $ free1 ! $ move ! (11 ∷ 12 ∷ []) $ free1 ! $ move ! (9 ∷ 10 ∷ []) $ free1 ! $ move ! (7 ∷ 8 ∷ []) $ free1 ! $ move ! (5 ∷ 6 ∷ []) $ free1 ! $ move ! (3 ∷ 4 ∷ []) $ free1 ! $ free0 ! $
+        by ! (exits x u′ (of-made (λ cells n k. SenderAnswer (now cells) (now t) n k w (statedEnquiry x)) r e e′)))))))))))))))))
 
 module _ {M : Type 1} (𝓤 : URA M) (H : Heap 𝓤) (A : Atoms 𝓤) (W : Given 𝓤 H A) (mem : Memory → SProp 𝓤) (run : Routine → Fun 𝓤) where
   asked-walks : (C : Calls 𝓤 H) (Λ : Loops 𝓤 H) → FmC 𝓤 H (W .laws) C → Triple 𝓤 (C #enquirer·new) (New 𝓤 H A mem run) → Triple 𝓤 (C #enquirer·best-sender) (Best 𝓤 H A mem run)
       → Walks 𝓤 H A ask.ended stayed (WpFn 𝓤 H C Λ code.function) (ask.clauses 𝓤 H A mem run)
-  asked-walks C Λ fm known-new known-best = walked 𝓤 H A ask.ended stayed (ask.clauses 𝓤 H A mem run) (WpFn 𝓤 H C Λ code.function) (λ κs. (slice-vals, (uint-vals w32, (uint-vals w32, (uint-vals w32, tt))))) (λ κs. (shr-slice-tells (named 0) (κs .0) u32, (uint-tells w32, (uint-tells w32, (uint-tells w32, tt)))))
-      (λ κs qs bounds a g are. via 𝓤 _ (fst∗ 𝓤 _ (emp 𝓤)) (walk 𝓤 H A W mem run (κs .0) (qs .0) (a .0) (a .1 .0) (a .1 .1 .0) (a .1 .1 .1 .0) (are .1 .0 .1) (are .1 .1 .0 .1) (are .1 .1 .1 .0 .1) C Λ fm known-new known-best (are .0)))
+  asked-walks C Λ fm known-new known-best = walked 𝓤 H A ask.ended stayed (ask.clauses 𝓤 H A mem run) (WpFn 𝓤 H C Λ code.function) (λ κs. (slice-vals, (slice-vals, (uint-vals w32, (uint-vals w32, (uint-vals w32, tt)))))) (λ κs. (shr-slice-tells (named 0) (κs .0) u32, (shr-slice-tells (named 0) (κs .0) u16, (uint-tells w32, (uint-tells w32, (uint-tells w32, tt))))))
+      (λ κs qs bounds a g are. via 𝓤 _ (fst∗ 𝓤 _ (emp 𝓤)) (walk 𝓤 H A W mem run (κs .0) (qs .0) (a .0) (a .1 .0) (a .1 .1 .0) (a .1 .1 .1 .0) (a .1 .1 .1 .1 .0) (are .1 .1 .0 .1) (are .1 .1 .1 .0 .1) (are .1 .1 .1 .1 .0 .1) C Λ fm known-new known-best (are .0) (are .1 .0)))
 
 asked-meets : {M : Type 1} (𝓤 : URA M) (H : Heap 𝓤) (A : Atoms 𝓤) (W : Given 𝓤 H A) (mem : Memory → SProp 𝓤) (run : Routine → Fun 𝓤) (𝓣 : Tables 𝓤 H)
     → Triple 𝓤 (𝓣 .C #enquirer·new) (New 𝓤 H A mem run) → Triple 𝓤 (𝓣 .C #enquirer·best-sender) (Best 𝓤 H A mem run)
     → Meets 𝓤 H A ask.signature (WpFn 𝓤 H (𝓣 .C) (𝓣 .Λ) code.function) (ask.spec 𝓤 H A mem run)
 asked-meets 𝓤 H A W mem run 𝓣 known-new known-best =
-    walk-meets 𝓤 H A ask.ended stayed W
-    (goes-none-slice 𝓤 H A W 1 (0 ∷ []) tt (plain (λ _. u32)) yes, (goes-none 𝓤 H A W 1 (λ _. u32) yes (λ κs x f. refl), (goes-none 𝓤 H A W 1 (λ _. u32) yes (λ κs x f. refl), (goes-none 𝓤 H A W 1 (λ _. u32) yes (λ κs x f. refl), tt))))
+    walk-meets 𝓤 H A ask.ended stayed W (
+      goes-none-slice 𝓤 H A W 1 (0 ∷ []) tt (plain (λ _. u32)) yes,
+      (goes-none-slice 𝓤 H A W 1 (0 ∷ []) tt (plain (λ _. u16)) yes, (goes-none 𝓤 H A W 1 (λ _. u32) yes (λ κs x f. refl), (goes-none 𝓤 H A W 1 (λ _. u32) yes (λ κs x f. refl), (goes-none 𝓤 H A W 1 (λ _. u32) yes (λ κs x f. refl), tt)))),
+    )
     (ask.clauses 𝓤 H A mem run) (WpFn 𝓤 H (𝓣 .C) (𝓣 .Λ) code.function) (WpFn-mono 𝓤 H (W .laws) 𝓣 code.function)
     (asked-walks 𝓤 H A W mem run (𝓣 .C) (𝓣 .Λ) (fmOf 𝓤 H (W .laws) 𝓣) known-new known-best)
 

@@ -7,17 +7,18 @@ use mathlib.Core.Option.{Option, some}
 use mathlib.Core.List.{List, [], _++_}
 use native.Mathlib.Omega.{arith}
 use lib.Dec.{T, eqb}
-use lib.ListN.{length, take, drop, length-take}
+use lib.ListN.{length, getD, take, drop, length-take}
 use Rattle.lists.specs.Every.{Every}
 use Rattle.lists.specs.Listed.{listed, listed-every}
 use Rattle.lists.specs.Numbers.{length-values}
 use Rattle.lists.specs.Tests.{true-fact}
 use Rattle.subset.specs.Sets.{full, isPart}
+use Rattle.landing_entries.specs.Entries.{senderIn}
 use Rattle.answer.specs.Stated.{Stated, statedPlanFile}
 use Rattle.answer.specs.declared.PlanFault.{PlanFault}
 use Rattle.graph.specs.Graph.{Graph}
 use Rattle.lent_tables.specs.SheetTables.{SheetTables, arcsAlone}
-use Rattle.graph.specs.HeldGraph.{graphIn, start-in, end-in}
+use Rattle.graph.specs.HeldGraph.{graphIn, start-in, end-in, may-root-in}
 use Rattle.graph.specs.Subtrees.{total, isTree, isCovering}
 use Rattle.graph.specs.Theorems.{tree-test}
 use Rattle.graph.specs.laws.SubtreeParts.{total-weights}
@@ -110,8 +111,8 @@ module _ (n k m : ℕ) (t : SheetTables) (marks file : List ℕ) (ready : HeldSh
     ))
 
     -- the tests by the marks are those of the definition
-    judged-plan : judgedFault file cost count k (t .weights) (t .landings) (marksOf G L root) ≡ planFault G root cost L
-    judged-plan = ap₂ (λ (tree sum : Bool). firstFailed tree covered sum) counted summed ∙ go (isTree G root L) refl
+    judged-plan : judgedFault file root cost count k (t .weights) (t .landings) (marksOf G L root) ≡ planFault G root cost L
+    judged-plan = (λ i. firstFailed (counted i) (flagged i) covered (summed i)) ∙ go (isTree G root L) refl
       where
         arcs : Every (λ e. e < m) L
         arcs = listed-every (λ e. e < m) L listed-below
@@ -124,27 +125,31 @@ module _ (n k m : ℕ) (t : SheetTables) (marks file : List ℕ) (ready : HeldSh
             ap (λ (x : ℕ). eqb (markedCount (marksOf G L root)) (x + 1)) (sym (length-values (listedArc file) 0 count))
             ∙ tree-by-count G (ready .sound) root L root-below arcs
 
+        flagged : senderIn (getD (t .landings) root 0) ≡ G .mayRoot root
+        flagged = sym (may-root-in n k m t root root-below)
+
         summed : eqb cost (weightSum file count (t .weights)) ≡ eqb cost (total G root L)
         summed =
             ap (eqb cost)
             (weights-sum n k m t file count listed-below ∙ sym (total-weights G (λ v. refl) root L))
 
         go : (b : Bool) → isTree G root L ≡ b
-            → firstFailed b covered (eqb cost (total G root L)) ≡ firstFailed b (isCovering G root L (full k)) (eqb cost (total G root L))
+            → firstFailed b (G .mayRoot root) covered (eqb cost (total G root L))
+            ≡ firstFailed b (G .mayRoot root) (isCovering G root L (full k)) (eqb cost (total G root L))
         go false q = refl
         go true q = let (from-tree, _) = tree-test G root L root-below arcs in
-            ap (λ (held : Bool). firstFailed true held (eqb cost (total G root L)))
+            ap (λ (held : Bool). firstFailed true (G .mayRoot root) held (eqb cost (total G root L)))
             (covering-by-marks n k m t (ready .sound) root L
             (from-tree (true-fact q)))
 
     -- the answer and the marks after the listed arcs are read
     pub arcs-judged : (answer : Stated) (after : List ℕ) → after ≡ marksOf (linkGraph (length (take n marks)) (t .starts) (t .ends)) L root
-        → answer ≡ answeredAs (judgedFault file cost count k (t .weights) (t .landings) after) root cost count
+        → answer ≡ answeredAs (judgedFault file root cost count k (t .weights) (t .landings) after) root cost count
         → (answer ≡ answerTo G file) × (after ++ drop n marks ≡ marksAfter G file marks)
     unfolding treeFault
     arcs-judged answer after marked told =
         let here : after ≡ marksOf G L root = marked ∙ marks-held in (
-          told ∙ ap (λ (l : List ℕ). answeredAs (judgedFault file cost count k (t .weights) (t .landings) l) root cost count) here
+          told ∙ ap (λ (l : List ℕ). answeredAs (judgedFault file root cost count k (t .weights) (t .landings) l) root cost count) here
               ∙ ap (λ (o : Option PlanFault). answeredAs o root cost count) judged-plan
               ∙ (λ i. answeredAs (planFault G (fields .root-is i) (fields .total-is i) (arcsTo file (fields .count-is i)))
               (fields .root-is i) (fields .total-is i) (fields .count-is i))

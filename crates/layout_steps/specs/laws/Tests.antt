@@ -17,7 +17,8 @@ use Rattle.limits.specs.Limits.{noCost}
 use Rattle.lists.specs.Tests.{true-fact, false-not-fact, same-tests, eq-fact, and-left, and-right, and-both, or-cases, or-right, and-fails, and-passes}
 use Rattle.lists.specs.Find.{first, first-found, first-none}
 use Rattle.lists.specs.Below.{below-more}
-use Rattle.subset.specs.Sets.{single, has, Part, isPart, terminalsIn}
+use Rattle.subset.specs.Sets.{single, has, Part, isPart}
+use Rattle.landing_entries.specs.Entries.{terminalsIn}
 use Rattle.subset.specs.laws.Parts.{part-has, single-part}
 use Rattle.subset.specs.laws.Terminals.{has-lt}
 use Rattle.subset.specs.laws.Sizes.{ones-single, one-terminal}

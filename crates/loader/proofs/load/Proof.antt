@@ -1,4 +1,4 @@
--- `loader::load` meets its contract. The sets are cleared, and the tables hold no record yet.
+-- `loader::load` meets its contract. The entries are cleared, the records are read, and the flags are those of the senders.
 -- Assumes nothing.
 use Prim.Native.Nat.{ℕ}
 use mathlib.Core.Path.{sym, ap, _∙_, subst}
@@ -7,8 +7,7 @@ use denote.Ref.{now}
 use Rattle.lent_tables.specs.SheetTables.{sheetTables, withLandings}
 use Rattle.records.specs.Records.{headSize}
 use Rattle.sheet.specs.Verdict.{verdict}
-use Rattle.loader.specs.LoadedBy.{loadedBy}
-use Rattle.loader.specs.laws.Loading.{Loading, loading-opened, loaded-cleared}
+use Rattle.loader.specs.laws.Loading.{Loading, readBy, loading-opened, loaded-flagged}
 use borrow.Author.Needs.{needs}
 use Rattle.loader.proofs.load.Statement.{statement}
 use Rattle.loader.proofs.load.Tie as tie
@@ -22,6 +21,9 @@ load-records-requires c κs =
     let t = sheetTables (now (a .starts)) (now (a .ends)) (now (a .weights)) (now (a .landings)) in
     subst (λ (l : List ℕ). Loading (now (a .sheet)) (withLandings l t) headSize 0 (withLandings l t)) (sym (c .before .before .before .before .before .before .clear-landings .ensures))
     (loading-opened (now (a .sheet)) (a .n) t (c .before .before .before .before .before .before .before .before .before .before .before .before .before .pre))
+
+flag-unless-some-requires : tie.Need-flag-unless-some-requires
+flag-unless-some-requires c κs = search needs
 
 same-length : tie.Need-same-length
 same-length c = search needs
@@ -37,11 +39,13 @@ same-length-4 c = search needs
 
 returns : tie.Need-returns
 returns c =
-    let a = c .before .before .before .before .before .before .before .before .before .before .before .before .before .before .before .before .before .before .before .before .before .before .args in
+    let start = c .before .before .before .before .before .before .before .before .before .before .before .before .before .before .before .before .before .before .before .before .before .before .before .before .before .before in
+    let a = start .args in
     let t = sheetTables (now (a .starts)) (now (a .ends)) (now (a .weights)) (now (a .landings)) in
-    c .before .before .before .before .before .before .before .before .load-records .ensures
-    ∙ ap (λ (l : List ℕ). loadedBy (verdict (now (a .sheet))) (withLandings l t)) (c .before .before .before .before .before .before .before .before .before .before .before .before .before .before .before .clear-landings .ensures)
-    ∙ loaded-cleared (now (a .sheet)) (a .n) t (c .before .before .before .before .before .before .before .before .before .before .before .before .before .before .before .before .before .before .before .before .before .before .pre)
+    let loaded = c .before .before .before .before .before .before .before .before .before .before .before .before .load-records .ensures in
+    let clear = c .before .before .before .before .before .before .before .before .before .before .before .before .before .before .before .before .before .before .before .clear-landings .ensures in
+    loaded-flagged (now (a .sheet)) (a .n) t (start .pre) _ _
+    (loaded ∙ ap (λ (l : List ℕ). readBy (verdict (now (a .sheet))) (withLandings l t)) clear) (c .before .before .flag-unless-some .ensures)
 
 pub load-spec : {M : Type 1} → statement M
 load-spec =
@@ -49,6 +53,7 @@ load-spec =
     (tie.spec
     clear-landings-requires
     load-records-requires
+    flag-unless-some-requires
     same-length
     same-length-2
     same-length-3

@@ -1,4 +1,5 @@
--- Loading a good sheet record after record: the tables hold the records that have been read, and at the end all of them.
+-- Loading a good sheet record after record: the tables hold the records that have been read, at the end all of them, and with the flags of the
+-- senders the sheet.
 -- Assumes nothing.
 use Prim.Native.Nat.{ℕ, _+_, _-_, _≤_, _<_}
 use mathlib.Core.Path.{_≡_, refl, sym, ap, ap₂, _∙_, subst}
@@ -11,15 +12,16 @@ use Rattle.lists.specs.Rest.{take-rest}
 use Rattle.lent_tables.specs.SheetTables.{SheetTables, withLandings, Long, SameLengths, long-same, long-fewer, long-arcs}
 use Rattle.records.specs.Records.{recordBytes, recordsBytes, endBytes, sizes, headSize, size, RecordOk}
 use Rattle.records.specs.Arcs.{arcsOf, arcs}
-use Rattle.sheet.specs.Verdict.{Verdict, verdict}
+use Rattle.sheet.specs.Verdict.{Verdict, good, bad, verdict}
 use Rattle.sheet.specs.laws.Good.{IsSheet, sheet-is-good}
 use Rattle.records.specs.laws.Appended.{size-low, arcs-append, sizes-append, count-more}
 use Rattle.loader.specs.laws.FirstRecord.{WholeRecord, firstRecord, whole-record, first-record, sheet-length, bytes-left}
 use Rattle.records.specs.declared.record.Record.{Record}
-use Rattle.records.specs.declared.record.Record.the-variants.{OneWay, BothWays, Landing}
-use Rattle.record_tables.specs.Loaded.{loaded}
+use Rattle.records.specs.declared.record.Record.the-variants.{OneWay, BothWays, Landing, Sender}
 use Rattle.loader.specs.LoadedBy.{loadedBy}
-use Rattle.record_tables.specs.laws.Writing.{withRecord, LandingFits, Fits, loaded-lengths, loaded-more, loaded-none, loaded-anew}
+use Rattle.record_tables.specs.laws.Writing.{withRecord, EntryFits, Fits, readIn, read-lengths, read-more, read-none, read-anew}
+use Rattle.record_tables.specs.laws.Flagged.{flagged-loaded}
+use Rattle.landing_entries.specs.laws.Flags.{flaggedUnlessSome}
 
 -- a sheet with n sites, and tables that are long enough for it
 pub record Loadable (s : List ℕ) (n : ℕ) (t : SheetTables) : Type 0 where
@@ -38,22 +40,27 @@ pub record Loading (s : List ℕ) (t₀ : SheetTables) (at count : ℕ) (t : She
   pub whole : loadable .records ≡ done ++ more
   pub place : at ≡ headSize + sizes done
   pub counted : count ≡ length (arcs done)
-  pub holds : t ≡ loaded n done t₀
+  pub holds : t ≡ readIn n done t₀
 
--- ---- before the first record
+-- the tables when the records of a sheet with this verdict have been read
+abbrev pub readBy : Verdict → SheetTables → SheetTables
+readBy (good n k records) t = readIn n records t
+readBy (bad fault) t = t
 
--- the first n landing sets are empty
+-- ---- before the first record, and after the last
+
+-- the first n landing entries are empty
 abbrev pub cleared : ℕ → SheetTables → SheetTables
 cleared n t = withLandings (replicate n 0 ++ drop n (t .landings)) t
 
 module _ (s : List ℕ) (n : ℕ) (t : SheetTables) (l : Loadable s n t) where
-  cleared-is : cleared n t ≡ loaded n [] t
-  cleared-is = sym (loaded-none n [] t)
+  cleared-is : cleared n t ≡ readIn n [] t
+  cleared-is = sym (read-none n [] t)
 
   pub loading-opened : Loading s (cleared n t) headSize 0 (cleared n t)
   loading-opened =
       let none : Long n 0 t = long-fewer n 0 (length (arcs (l .records))) t (omega arith) (l .long) in
-      let same : SameLengths (cleared n t) t = subst (λ (t' : SheetTables). SameLengths t' t) (sym cleared-is) (loaded-lengths n [] t none) in
+      let same : SameLengths (cleared n t) t = subst (λ (t' : SheetTables). SameLengths t' t) (sym cleared-is) (read-lengths n [] t none) in
       record {
         n = n;
         loadable = record { k = l .k; records = l .records; sheet = l .sheet; long = long-same same (l .long) };
@@ -62,23 +69,34 @@ module _ (s : List ℕ) (n : ℕ) (t : SheetTables) (l : Loadable s n t) where
         whole = refl;
         place = refl;
         counted = refl;
-        holds = cleared-is ∙ sym (loaded-anew n [] t) ∙ ap (loaded n []) (sym cleared-is);
+        holds = cleared-is ∙ sym (read-anew n [] t) ∙ ap (readIn n []) (sym cleared-is);
       }
 
-  pub loaded-cleared : loadedBy (verdict s) (cleared n t) ≡ loadedBy (verdict s) t
-  loaded-cleared =
-      let good = sheet-is-good s n (l .k) (l .records) (l .sheet) in
-      ap (λ (v : Verdict). loadedBy v (cleared n t)) good
-      ∙ ap (loaded n (l .records)) cleared-is
-      ∙ loaded-anew n (l .records) t
-      ∙ sym (ap (λ (v : Verdict). loadedBy v t) good)
+  good-is : verdict s ≡ good n (l .k) (l .records)
+  good-is = sheet-is-good s n (l .k) (l .records) (l .sheet)
+
+  read-all : readBy (verdict s) (cleared n t) ≡ readIn n (l .records) t
+  read-all =
+      ap (λ (v : Verdict). readBy v (cleared n t)) good-is
+      ∙ ap (readIn n (l .records)) cleared-is
+      ∙ read-anew n (l .records) t
+
+  -- with the flags the tables hold the sheet
+  pub loaded-flagged : (t' : SheetTables) (landings : List ℕ) → t' ≡ readBy (verdict s) (cleared n t) → landings ≡ flaggedUnlessSome n (t' .landings)
+      → withLandings landings t' ≡ loadedBy (verdict s) t
+  loaded-flagged t' landings e flagged =
+      ap (λ (l : List ℕ). withLandings l t') flagged
+      ∙ ap (λ (u : SheetTables). withLandings (flaggedUnlessSome n (u .landings)) u) (e ∙ read-all)
+      ∙ flagged-loaded n (l .k) (l .records) t (l .sheet .terminals .1) (l .sheet .each)
+      ∙ sym (ap (λ (v : Verdict). loadedBy v t) good-is)
 
 -- ---- one record more
 
-landing-fits : (n k nodes : ℕ) (x : Record) → RecordOk n k x → n ≤ nodes → k ≤ maxTerminals → LandingFits x nodes
-landing-fits n k nodes (OneWay start end weight) ok h b = tt
-landing-fits n k nodes (BothWays start end weight) ok h b = tt
-landing-fits n k nodes (Landing terminal node) ok h b = (omega (arith, ok .1), omega (arith, ok .0))
+entry-fits : (n k nodes : ℕ) (x : Record) → RecordOk n k x → n ≤ nodes → k ≤ maxTerminals → EntryFits x nodes
+entry-fits n k nodes (OneWay start end weight) ok h b = tt
+entry-fits n k nodes (BothWays start end weight) ok h b = tt
+entry-fits n k nodes (Landing terminal node) ok h b = (omega (arith, ok .1), omega (arith, ok .0))
+entry-fits n k nodes (Sender node) ok h b = omega arith
 
 -- the record that stands next
 record NextRecord (n k : ℕ) (more left : List Record) (bytes : List ℕ) (x : Record) : Type 0 where
@@ -105,13 +123,13 @@ module _ (s : List ℕ) (t₀ : SheetTables) (at count : ℕ) (t : SheetTables) 
   end-fits = omega (arith, places)
 
   -- at the end all records have been read
-  pub loading-end : length s ≤ at + length endBytes → t ≡ loadedBy (verdict s) t₀
+  pub loading-end : length s ≤ at + length endBytes → t ≡ readBy (verdict s) t₀
   loading-end ended = go (l .more) (l .whole) places
     where
-      go : (more : List Record) → l .loadable .records ≡ l .done ++ more → length s ≡ at + sizes more + length endBytes → t ≡ loadedBy (verdict s) t₀
+      go : (more : List Record) → l .loadable .records ≡ l .done ++ more → length s ≡ at + sizes more + length endBytes → t ≡ readBy (verdict s) t₀
       go [] whole p =
-          l .holds ∙ ap (λ (records : List Record). loaded (l .n) records t₀) (sym (whole ∙ append-nil (l .done)))
-          ∙ sym (ap (λ (v : Verdict). loadedBy v t₀) (sheet-is-good s (l .n) (l .loadable .k) (l .loadable .records) sheet))
+          l .holds ∙ ap (λ (records : List Record). readIn (l .n) records t₀) (sym (whole ∙ append-nil (l .done)))
+          ∙ sym (ap (λ (v : Verdict). readBy v t₀) (sheet-is-good s (l .n) (l .loadable .k) (l .loadable .records) sheet))
       go (x ∷ more) whole p = absurd (omega (arith, p, length-append (recordBytes x) (recordsBytes more), size-low x))
 
   -- before the end another record stands at the place
@@ -173,10 +191,10 @@ module _ (s : List ℕ) (t₀ : SheetTables) (at count : ℕ) (t : SheetTables) 
           let more = count-more (l .done) x in
           let h = long-next in
           let now-long : Long (l .n) (length (arcs (l .done))) t₀ = long-fewer (l .n) (length (arcs (l .done))) (length (arcs (l .done ++ (x ∷ [])))) t₀ (omega (arith, more)) h in
-          let same : SameLengths t t₀ = subst (λ (t' : SheetTables). SameLengths t' t₀) (sym (l .holds)) (loaded-lengths (l .n) (l .done) t₀ now-long) in
+          let same : SameLengths t t₀ = subst (λ (t' : SheetTables). SameLengths t' t₀) (sym (l .holds)) (read-lengths (l .n) (l .done) t₀ now-long) in
           record {
             arcs = subst (λ (i : ℕ). Long 0 i t) (omega (arith, l .counted, more)) (long-arcs (long-same same h));
-            landings = landing-fits (l .n) (l .loadable .k) (length (t .landings)) x (found .1 .ok) (omega (arith, same .landings, h .landings)) (sheet .terminals .1);
+            landings = entry-fits (l .n) (l .loadable .k) (length (t .landings)) x (found .1 .ok) (omega (arith, same .landings, h .landings)) (sheet .terminals .1);
           }
 
       -- the place after it is within the sheet, and the legs are not too many
@@ -203,5 +221,5 @@ module _ (s : List ℕ) (t₀ : SheetTables) (at count : ℕ) (t : SheetTables) 
             counted = omega (arith, l .counted, so-many, count-more (l .done) x);
             holds =
                 written ∙ ap₂ (λ (i : ℕ) (t'' : SheetTables). withRecord i x t'') (l .counted) (l .holds)
-                ∙ loaded-more (l .n) (l .done) t₀ (l .loadable .k) x (found .1 .ok) long-next;
+                ∙ read-more (l .n) (l .done) t₀ (l .loadable .k) x (found .1 .ok) long-next;
           }

@@ -2,25 +2,28 @@
 -- Assumes nothing.
 use Prim.Native.Nat.{ℕ, _≤_, _<_}
 use mathlib.Core.Path.{_≡_, ap, sym, _∙_}
-use mathlib.Core.Bool.{true}
+use mathlib.Core.Bool.{Bool, _&&_}
 use mathlib.Core.List.{List, map}
 use native.Mathlib.Omega.{arith}
 use native.Mathlib.Decide.{decLt}
+use lib.Dec.{ltb}
+use borrow.Author.Tests.{lt-ltb, le-ltb}
 use lib.ListN.{length, getD, take, drop, length-map, length-take, List·getD-map, List·getD-eq-default}
 use lib.Seq.{take-at, getD-take}
 use Rattle.limits.specs.Limits.{maxTerminals}
 use Rattle.lists.specs.Every.{Every, every-mem}
 use Rattle.lists.specs.Over.{over}
-use Rattle.subset.specs.Sets.{terminalsIn}
+use Rattle.landing_entries.specs.Entries.{terminalsIn, senderIn}
 use Rattle.subset.specs.laws.Parts.{terminals-lt}
 use Rattle.records.specs.Arcs.{Arc, arc, arcs, arcAt}
 use Rattle.records.specs.Landings.{terminalsAt}
+use Rattle.records.specs.Senders.{isSender}
 use Rattle.records.specs.Records.{RecordOk}
 use Rattle.records.specs.laws.Heard.{landing-has}
 use Rattle.records.specs.declared.record.Record.{Record}
 use Rattle.lent_tables.specs.SheetTables.{SheetTables}
 use Rattle.record_tables.specs.Loaded.{loaded}
-use Rattle.record_tables.specs.laws.Held.{terminals-held}
+use Rattle.record_tables.specs.laws.Held.{terminals-held, sender-held}
 use Rattle.graph.specs.HeldGraph.{graphIn}
 use Rattle.network.specs.Network.{graphOf}
 
@@ -52,6 +55,22 @@ module _ (n k : ℕ) (records : List Record) (t : SheetTables) where
       go (no h) =
           ap terminalsIn (List·getD-eq-default (take n sets) 0 (omega (arith, length-take n sets))) ∙ sym (terminalsAt-none n k records each v (omega arith))
 
+  -- and whether each site is a sender; past the sites there is none
+  senders-loaded : k ≤ maxTerminals → Every (RecordOk n k) records → (v : ℕ)
+      → senderIn (getD (take n (loaded n records t .landings)) v 0) ≡ (ltb v n && isSender records v)
+  senders-loaded b each v = go (decLt v n)
+    where
+      entries : List ℕ
+      entries = loaded n records t .landings
+
+      go : Dec (v < n) → senderIn (getD (take n entries) v 0) ≡ (ltb v n && isSender records v)
+      go (yes h) =
+          ap senderIn (getD-take n entries v 0 h) ∙ sender-held n records t k b each v h
+          ∙ ap (λ (x : Bool). x && isSender records v) (sym (lt-ltb v n h))
+      go (no h) =
+          ap senderIn (List·getD-eq-default (take n entries) 0 (omega (arith, length-take n entries)))
+          ∙ ap (λ (x : Bool). x && isSender records v) (sym (le-ltb v n (omega arith)))
+
   -- equal values at each number are equal functions, and graphs with equal parts are equal
   pub loaded-graph : k ≤ maxTerminals → Every (RecordOk n k) records → graphIn n k (length (arcs records)) (loaded n records t) ≡ graphOf n k records
   unfolding loaded
@@ -64,5 +83,5 @@ module _ (n k : ℕ) (records : List Record) (t : SheetTables) where
     weight = λ e. column-loaded (λ a. a .weight) (t .weights) e i;
     landings = λ v. landings-loaded b each v i;
     charge = λ v. 0;
-    mayRoot = λ v. true;
+    mayRoot = λ v. senders-loaded b each v i;
   }

@@ -24,7 +24,7 @@ use Rattle.records.specs.Arcs.{Arc, arc, arcsOf, arcs, arcAt}
 use Rattle.records.specs.Landings.{Heard}
 use Rattle.records.specs.laws.Heard.{landing-has, has-landing}
 use Rattle.records.specs.declared.record.Record.{Record}
-use Rattle.records.specs.declared.record.Record.the-variants.{OneWay, BothWays, Landing as LandingRecord}
+use Rattle.records.specs.declared.record.Record.the-variants.{OneWay, BothWays, Landing as LandingRecord, Sender}
 use Rattle.network.specs.Network.{graphOf}
 
 -- ---- the arcs
@@ -41,6 +41,7 @@ arcsOf-ok : (n k : ℕ) (x : Record) → RecordOk n k x → Every (ArcOk n) (arc
 arcsOf-ok n k (OneWay start end weight) ok = (ok, tt)
 arcsOf-ok n k (BothWays start end weight) ok = (ok, (back-ok ok, tt))
 arcsOf-ok n k (LandingRecord terminal node) ok = tt
+arcsOf-ok n k (Sender node) ok = tt
 
 arcs-ok : (n k : ℕ) (records : List Record) → Every (RecordOk n k) records → Every (ArcOk n) (arcs records)
 arcs-ok n k [] each = tt

@@ -19,19 +19,19 @@ use Rattle.lists.specs.Tests.{true-fact, fact-true, false-not-fact, not-both}
 use Rattle.subset.specs.Sets.{full}
 use Rattle.answer.specs.Stated.{Stated, plan, cell, sender, noSender, refused, ofPlanFile, statedPlanFile}
 use Rattle.answer.specs.declared.PlanFault.{PlanFault}
-use Rattle.answer.specs.declared.PlanFault.the-variants.{CutPlan, BadPlan, UnknownNumber, NoTree, StationMissed, FalseTotal}
+use Rattle.answer.specs.declared.PlanFault.the-variants.{CutPlan, BadPlan, UnknownNumber, NoTree, NotASender, StationMissed, FalseTotal}
 use Rattle.graph.specs.Graph.{Graph}
 use Rattle.graph.specs.Subtrees.{Subtree, CoversAll, total, isTree, isCovering}
 use Rattle.graph.specs.Theorems.{tree-test, covers-test, covers-all}
 use Rattle.number_fields.specs.Fields.{number16}
 use Rattle.planfile.specs.Format.{fileSize, rootIn, totalIn, countIn, markAt, listedArc, arcsIn}
 use Rattle.mission.specs.FileDue.{HeadRead, Sized, RecordPasses, PassBefore, FilePasses, FileDue, under-head, no-mark, no-root, short, left-over}
-use Rattle.mission.specs.FileDue.{no-arc-mark, no-arc, no-tree, missed, false-total}
+use Rattle.mission.specs.FileDue.{no-arc-mark, no-arc, no-tree, not-sender, missed, false-total}
 use Rattle.mission.specs.laws.PointLaws.{plan-not-refused}
 use Rattle.file_tests.specs.FileFaults.{headFault, arcFault, isFault, faultAt, arcsFault, orElse, fileFault}
 use Rattle.file_tests.specs.laws.Faults.{some-fault, HeadOk, FileOk, head-passes, head-passed, arc-passed, arcs-fault, file-passes, file-passed, listed-on}
 use Rattle.plan_tests.specs.PlanFaults.{treeFault}
-use Rattle.plan_tests.specs.laws.FirstFailed.{failed-tree, failed-held, failed-sum}
+use Rattle.plan_tests.specs.laws.FirstFailed.{failed-tree, failed-root, failed-held, failed-sum}
 use Rattle.file_reader.specs.FileAnswer.{answered, answerTo}
 
 -- ---- what is stated of a fault
@@ -137,6 +137,9 @@ module _ (G : Graph) (file : List ℕ) where
   abbrev is-tree : Bool
   is-tree = isTree G (rootIn file) (arcsIn file)
 
+  abbrev may-root : Bool
+  may-root = G .mayRoot (rootIn file)
+
   abbrev is-held : Bool
   is-held = isCovering G (rootIn file) (arcsIn file) (full (G .terminals))
 
@@ -162,10 +165,12 @@ module _ (G : Graph) (file : List ℕ) where
     against-due f e =
         by-fault Due (not is-tree) NoTree f _ e (λ t. no-tree (passes-by ok) (refuted is-tree (tree-says .1) t)) (λ a e1.
         let tree = granted is-tree (tree-says .0) a in
-        by-fault Due (not is-held) StationMissed f _ e1 (λ t. missed (passes-by ok) tree (refuted is-held (holds-says .1) t)) (λ b e2.
-        by-fault Due (not is-sum) FalseTotal f none e2
-        (λ t. false-total (passes-by ok) tree (granted is-held (holds-says .0) b) (eqb-false _ _ (not-true _ t)))
-        (λ _ e3. some-fault e3 refl)))
+        by-fault Due (not may-root) NotASender f _ e1 (λ t. not-sender (passes-by ok) tree (refuted may-root (λ m. m) t)) (λ r e2.
+        let may = granted may-root (λ m. m) r in
+        by-fault Due (not is-held) StationMissed f _ e2 (λ t. missed (passes-by ok) tree may (refuted is-held (holds-says .1) t)) (λ b e3.
+        by-fault Due (not is-sum) FalseTotal f none e3
+        (λ t. false-total (passes-by ok) tree may (granted is-held (holds-says .0) b) (eqb-false _ _ (not-true _ t)))
+        (λ _ e4. some-fault e4 refl))))
 
   fault-due : (f : PlanFault) → orElse (fileFault (G .nodes) (G .arcs) file) (treeFault G file) ≡ some f → Due f
   fault-due f e = go (fileFault (G .nodes) (G .arcs) file) refl e
@@ -239,17 +244,23 @@ module _ (G : Graph) (file : List ℕ) where
 
     tree-answer : (Subtree G (rootIn file) (arcsIn file) → ⊥) → treeFault G file ≡ some NoTree
     unfolding treeFault
-    tree-answer none-such = failed-tree is-tree is-held is-sum (fails-as is-tree (λ t. none-such (tree-says (file-ok p) .0 t)))
+    tree-answer none-such = failed-tree is-tree may-root is-held is-sum (fails-as is-tree (λ t. none-such (tree-says (file-ok p) .0 t)))
 
-    held-answer : Subtree G (rootIn file) (arcsIn file) → (CoversAll G (rootIn file) (arcsIn file) → ⊥) → treeFault G file ≡ some StationMissed
+    root-answer : Subtree G (rootIn file) (arcsIn file) → (T (G .mayRoot (rootIn file)) → ⊥) → treeFault G file ≡ some NotASender
     unfolding treeFault
-    held-answer s none-such =
-        failed-held is-tree is-held is-sum (tree-passes s) (fails-as is-held (λ t. none-such (holds-says (file-ok p) .0 t)))
+    root-answer s may-not = failed-root is-tree may-root is-held is-sum (tree-passes s) (fails-as may-root may-not)
 
-    sum-answer : Subtree G (rootIn file) (arcsIn file) → CoversAll G (rootIn file) (arcsIn file)
+    held-answer : Subtree G (rootIn file) (arcsIn file) → T (G .mayRoot (rootIn file)) → (CoversAll G (rootIn file) (arcsIn file) → ⊥)
+        → treeFault G file ≡ some StationMissed
+    unfolding treeFault
+    held-answer s may none-such =
+        failed-held is-tree may-root is-held is-sum (tree-passes s) (fact-true may) (fails-as is-held (λ t. none-such (holds-says (file-ok p) .0 t)))
+
+    sum-answer : Subtree G (rootIn file) (arcsIn file) → T (G .mayRoot (rootIn file)) → CoversAll G (rootIn file) (arcsIn file)
         → (totalIn file ≡ total G (rootIn file) (arcsIn file) → ⊥) → treeFault G file ≡ some FalseTotal
     unfolding treeFault
-    sum-answer s all differs = failed-sum is-tree is-held is-sum (tree-passes s) (held-passes all) (ne-eqb _ _ differs)
+    sum-answer s may all differs =
+        failed-sum is-tree may-root is-held is-sum (tree-passes s) (fact-true may) (held-passes all) (ne-eqb _ _ differs)
 
   -- what is due is given
   due-answer : (number place : ℕ) → FileDue G file number place → answerTo G file ≡ refused ofPlanFile number place
@@ -274,8 +285,9 @@ module _ (G : Graph) (file : List ℕ) where
       own-answer (UnknownNumber (fileSize i)) (record-own sized i l before (UnknownNumber (fileSize i))
       (skips _ (BadPlan (fileSize i)) _ (some (UnknownNumber (fileSize i))) (ap not (eq-eqb _ _ mark)) (fails _ (UnknownNumber (fileSize i)) none (le-leb _ _ large))))
   due-answer number place (no-tree p none-such) = against-answer p NoTree (tree-answer p none-such)
-  due-answer number place (missed p s none-such) = against-answer p StationMissed (held-answer p s none-such)
-  due-answer number place (false-total p s all differs) = against-answer p FalseTotal (sum-answer p s all differs)
+  due-answer number place (not-sender p s may-not) = against-answer p NotASender (root-answer p s may-not)
+  due-answer number place (missed p s may none-such) = against-answer p StationMissed (held-answer p s may none-such)
+  due-answer number place (false-total p s may all differs) = against-answer p FalseTotal (sum-answer p s may all differs)
 
 -- the plan reader's answer is a refusal of the file exactly where that refusal is due
 pub gets-due : (G : Graph) (file : List ℕ) (number place : ℕ) → (answerTo G file ≡ refused ofPlanFile number place) ↔ FileDue G file number place

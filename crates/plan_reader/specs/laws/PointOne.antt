@@ -11,7 +11,7 @@ use native.Mathlib.Decide.{ℕ-discrete}
 use lib.Dec.{eqb, ltb, leb}
 use lib.ListN.{length, getD}
 use Rattle.limits.specs.Marks.{markPN, markLG}
-use Rattle.limits.specs.Refusals.{shortTables, cutPlan, unknownNumber, noTree, falseTotal}
+use Rattle.limits.specs.Refusals.{shortTables, cutPlan, unknownNumber, noTree, notASender}
 use Rattle.lists.specs.Find.{first}
 use Rattle.lists.specs.Over.{length-over}
 use Rattle.subset.specs.Sets.{full}
@@ -19,7 +19,7 @@ use Rattle.answer.specs.Stated.{Family, Stated, plan, refused, ofTables, stated
 use Rattle.answer.specs.laws.OneToOne.{refusal-no-plan}
 use Rattle.answer.specs.declared.SheetFault.{SheetFault}
 use Rattle.answer.specs.declared.PlanFault.{PlanFault}
-use Rattle.answer.specs.declared.PlanFault.the-variants.{CutPlan, BadPlan, UnknownNumber, NoTree, StationMissed, FalseTotal}
+use Rattle.answer.specs.declared.PlanFault.the-variants.{CutPlan, BadPlan, UnknownNumber, NoTree, NotASender, StationMissed, FalseTotal}
 use Rattle.answer.specs.declared.Refusal.the-variants.{Sheet, PlanFile}
 use Rattle.graph.specs.Graph.{Graph}
 use Rattle.graph.specs.Paths.{DirectedPath}
@@ -94,18 +94,20 @@ own-numbers n m file = first-or-later cutPlan unknownNumber (headFault n file) (
     records : Numbered cutPlan unknownNumber (arcsFault m file)
     records = fault-at cutPlan unknownNumber (arcFault m file) at (first (λ i. isFault (arcFault m file i)) (countIn file))
 
--- those against the sheet: 17 to 19
-failed-numbers : (tree held sum : Bool) → Numbered noTree falseTotal (firstFailed tree held sum)
-failed-numbers tree held sum =
-    either noTree falseTotal (not tree) (some NoTree) _ (omega arith, omega arith)
-    (either noTree falseTotal (not held) (some StationMissed) _ (omega arith, omega arith)
-    (either noTree falseTotal (not sum) (some FalseTotal) none (omega arith, omega arith) tt))
+-- those against the sheet: 17 to 20
+failed-numbers : (tree may-root held sum : Bool) → Numbered noTree notASender (firstFailed tree may-root held sum)
+failed-numbers tree may-root held sum =
+    either noTree notASender (not tree) (some NoTree) _ (omega arith, omega arith)
+    (either noTree notASender (not may-root) (some NotASender) _ (omega arith, omega arith)
+    (either noTree notASender (not held) (some StationMissed) _ (omega arith, omega arith)
+    (either noTree notASender (not sum) (some FalseTotal) none (omega arith, omega arith) tt)))
 
-against-numbers : (G : Graph) (file : List ℕ) → Numbered noTree falseTotal (treeFault G file)
+against-numbers : (G : Graph) (file : List ℕ) → Numbered noTree notASender (treeFault G file)
 unfolding treeFault
 against-numbers G file =
     let L : List ℕ = arcsIn file in
-    failed-numbers (isTree G (rootIn file) L) (isCovering G (rootIn file) L (full (G .terminals))) (eqb (totalIn file) (total G (rootIn file) L))
+    failed-numbers (isTree G (rootIn file) L) (G .mayRoot (rootIn file)) (isCovering G (rootIn file) L (full (G .terminals)))
+    (eqb (totalIn file) (total G (rootIn file) L))
 
 -- each is a refusal of the plan file
 file-refusal : (fault : PlanFault) → PlanOrRefusal ReaderNumber (statedPlanFile fault)
@@ -113,6 +115,7 @@ file-refusal CutPlan = (inr (omega arith, omega arith), refl)
 file-refusal (BadPlan place) = (inr (omega arith, omega arith), refl)
 file-refusal (UnknownNumber place) = (inr (omega arith, omega arith), refl)
 file-refusal NoTree = (inr (omega arith, omega arith), refl)
+file-refusal NotASender = (inr (omega arith, omega arith), refl)
 file-refusal StationMissed = (inr (omega arith, omega arith), refl)
 file-refusal FalseTotal = (inr (omega arith, omega arith), refl)
 
@@ -193,8 +196,8 @@ module _ (sheet file : List ℕ) (t : ReaderTables) where
         holds = record { tables = refl; marks = marks-reached n k records file (t .marks) (long .further .marks) passed };
       }
 
-      -- 17 to 19
-      against-safe : (fault : PlanFault) → Numbered noTree falseTotal (some fault) → Safe (run (statedPlanFile fault) (filledWith n k records file t (reachedMarks n k records file t)))
+      -- 17 to 20
+      against-safe : (fault : PlanFault) → Numbered noTree notASender (some fault) → Safe (run (statedPlanFile fault) (filledWith n k records file t (reachedMarks n k records file t)))
       against-safe fault bounds = record {
         answers = file-refusal fault;
         early = λ family number place q small. absurd (omega (arith, ap numberIn q, bounds));
@@ -223,7 +226,7 @@ module _ (sheet file : List ℕ) (t : ReaderTables) where
             (own-safe fault (subst (Numbered cutPlan unknownNumber) a (own-numbers n (length (arcs records)) file)))
         go none a (some fault) b =
             subst Safe (sym (plan-refused n k records file t fault a b))
-            (against-safe a fault (subst (Numbered noTree falseTotal) b (against-numbers (graphOf n k records) file)))
+            (against-safe a fault (subst (Numbered noTree notASender) b (against-numbers (graphOf n k records) file)))
         go none a none b = subst Safe (sym (plan-accepted n k records file t a b)) (accepted-safe a _ _ _)
 
 -- ---- every run
@@ -244,6 +247,7 @@ past-tables (some CutPlan) file family number place same = omega (arith, same-nu
 past-tables (some (BadPlan at)) file family number place same = omega (arith, same-number same)
 past-tables (some (UnknownNumber at)) file family number place same = omega (arith, same-number same)
 past-tables (some NoTree) file family number place same = omega (arith, same-number same)
+past-tables (some NotASender) file family number place same = omega (arith, same-number same)
 past-tables (some StationMissed) file family number place same = omega (arith, same-number same)
 past-tables (some FalseTotal) file family number place same = omega (arith, same-number same)
 

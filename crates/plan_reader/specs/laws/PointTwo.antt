@@ -1,6 +1,6 @@
 -- The mission, point 2, of the plan reader's answer as it is defined: with a good sheet and long enough tables it accepts a file exactly when
--- the file encodes a directed subtree of the sheet's legs that holds a landing of every station, with its true total; and it accepts none
--- without them.
+-- the file encodes a directed subtree of the sheet's legs whose root is a sender and that holds a landing of every station, with its true
+-- total; and it accepts none without them.
 -- Assumes nothing.
 use Prim.Native.Nat.{ℕ, _<_}
 use mathlib.Core.Path.{_≡_, refl, sym, ap, _∙_, subst}
@@ -61,17 +61,17 @@ module _ (G : Graph) (file : List ℕ) where
   well-formed : FileOk (G .nodes) (G .arcs) file → WellFormed file
   well-formed ok = record { size = ok .head .size; head-mark = ok .head .mark; marks = λ i l. ok .arcs i l .mark }
 
-  -- an accepted file encodes a plan, where its root may be a root
-  accepted-encodes : Bytes file → T (G .mayRoot (rootIn file)) → (root cost count : ℕ) → answerTo G file ≡ plan root cost count
-      → EncodesPlan G file root cost count
+  -- an accepted file encodes a plan
+  accepted-encodes : Bytes file → (root cost count : ℕ) → answerTo G file ≡ plan root cost count → EncodesPlan G file root cost count
   unfolding treeFault
-  accepted-encodes bytes may root cost count e =
+  accepted-encodes bytes root cost count e =
       let a = accepted (orElse (fileFault (G .nodes) (G .arcs) file) (treeFault G file)) file root cost count e in
       let (by-itself, against) = neither (fileFault (G .nodes) (G .arcs) file) (treeFault G file) (a .no-fault) in
       let ok : FileOk (G .nodes) (G .arcs) file = file-passed (G .nodes) (G .arcs) file by-itself in
       let L : List ℕ = arcsIn file in
-      let (tree, held, sum) =
-      none-failed (isTree G (rootIn file) L) (isCovering G (rootIn file) L (full (G .terminals))) (eqb (totalIn file) (total G (rootIn file) L))
+      let (tree, may, held, sum) =
+      none-failed (isTree G (rootIn file) L) (G .mayRoot (rootIn file)) (isCovering G (rootIn file) L (full (G .terminals)))
+      (eqb (totalIn file) (total G (rootIn file) L))
       against in
       let (from-tree, _) = tree-test G (rootIn file) L (ok .head .root) (arcs-on ok) in
       let (covers, _) = covers-test G (rootIn file) L (full (G .terminals)) in
@@ -81,7 +81,7 @@ module _ (G : Graph) (file : List ℕ) where
         listed = L;
         is-plan =
             record {
-              may-root = may;
+              may-root = true-fact may;
               subtree = from-tree (true-fact tree);
               covers = all (covers (true-fact held));
               true-total = eqb-true _ _ sum;
@@ -118,8 +118,10 @@ module _ (G : Graph) (file : List ℕ) where
       let (_, covering) = covers-test G root (p .listed) (full (G .terminals)) in
       let (_, covers) = covers-all G root (p .listed) in
       let passed : planFault G root cost (p .listed) ≡ none =
-      failed-none (isTree G root (p .listed)) (isCovering G root (p .listed) (full (G .terminals))) (eqb cost (total G root (p .listed)))
+      failed-none (isTree G root (p .listed)) (G .mayRoot root) (isCovering G root (p .listed) (full (G .terminals)))
+      (eqb cost (total G root (p .listed)))
       (fact-true (tree (p .is-plan .subtree)))
+      (fact-true (p .is-plan .may-root))
       (fact-true (covering (covers (p .is-plan .covers))))
       (eq-eqb _ _ (p .is-plan .true-total)) in
       let against : treeFault G file ≡ none = (λ i. planFault G (f .root-is i) (f .total-is i) (f .arcs-are i)) ∙ passed in
@@ -133,7 +135,7 @@ pub point-two : ReaderPointTwo readingOf
 point-two sheet file bytes t n k records e long root cost count =
     let G : Graph = graphOf n k records in
     let same = ap (λ (r : Run ReaderTables). r .answer) (file-read sheet file t n k records e long) in (
-      (λ q. accepted-encodes G file bytes tt root cost count (sym same ∙ q)),
+      (λ q. accepted-encodes G file bytes root cost count (sym same ∙ q)),
       (λ p. same ∙ encodes-accepted G file root cost count p),
     )
 

@@ -64,7 +64,7 @@ module _ (n k : ℕ) (records : List Record) (file : List ℕ) (t : ReaderTables
       → readAgainst n k records file t ≡ run (statedPlanFile fault) (filledWith (t .marks))
   file-refused fault e = by-faults (some fault) (treeFault (graphOf n k records) file) e refl
 
-  -- 17 to 19
+  -- 17, 20, 18 and 19
   pub plan-refused : (fault : PlanFault) → fileFault n (length (arcs records)) file ≡ none → treeFault (graphOf n k records) file ≡ some fault
       → readAgainst n k records file t ≡ run (statedPlanFile fault) (filledWith reachedMarks)
   plan-refused fault e f = by-faults none (some fault) e f

@@ -5,14 +5,16 @@ use mathlib.Core.Path.{_≡_, sym, ap, ap₂, _∙_}
 use mathlib.Core.Bool.{Bool, true, false}
 use mathlib.Core.Option.{Option}
 use lib.Dec.{eqb}
+use lib.ListN.{getD}
 use denote.Ref.{now}
 use borrow.Author.Needs.{needs}
 use borrow.Author.Tests.{eq-eqb, ne-eqb, not-true, not-false}
 use Rattle.answer.specs.declared.PlanFault.{PlanFault}
 use Rattle.subset.specs.Sets.{full, isPart}
+use Rattle.landing_entries.specs.Entries.{senderIn}
 use Rattle.plan_tests.specs.PlanFaults.{answeredAs}
 use Rattle.plan_tests.specs.ByMarks.{markedCount, markedTerminals, weightSum}
-use Rattle.plan_tests.specs.laws.FirstFailed.{failed-tree, failed-held, failed-sum, failed-none}
+use Rattle.plan_tests.specs.laws.FirstFailed.{failed-tree, failed-root, failed-held, failed-sum, failed-none}
 use Rattle.plan_tests.proofs.test_plan.Statement.{statement}
 use Rattle.plan_tests.proofs.test_plan.Tie as tie
 
@@ -26,10 +28,31 @@ returns : tie.Need-returns
 returns c =
     let a = c .before .before .before .before .before .before .args in
     let tree : Bool = eqb (markedCount (now (a .marks))) (a .count + 1) in
+    let may-root : Bool = senderIn (getD (now (a .landings)) (a .root) 0) in
     let held : Bool = isPart (full (a .k)) (markedTerminals (now (a .marks)) (now (a .landings))) in
     let sum : Bool = eqb (a .total) (weightSum (now (a .file)) (a .count) (now (a .weights))) in
     let counted : tree ≡ false = ap (λ (x : ℕ). eqb x (a .count + 1)) (sym (c .before .marked-count .ensures)) ∙ ne-eqb _ _ (c .if1 .taken) in
-    sym (ap (λ (o : Option PlanFault). answeredAs o (a .root) (a .total) (a .count)) (failed-tree tree held sum counted))
+    sym (ap (λ (o : Option PlanFault). answeredAs o (a .root) (a .total) (a .count)) (failed-tree tree may-root held sum counted))
+
+mul-is-sender : tie.Need-mul-is-sender
+mul-is-sender c = search needs
+
+shared-slice-read-is-sender : tie.Need-shared-slice-read-is-sender
+shared-slice-read-is-sender c = search needs
+
+is-sender-requires : tie.Need-is-sender-requires
+is-sender-requires c κs = search needs
+
+returns-2 : tie.Need-returns-2
+returns-2 c =
+    let a = c .before .before .before .before .before .before .before .before .before .args in
+    let tree : Bool = eqb (markedCount (now (a .marks))) (a .count + 1) in
+    let may-root : Bool = senderIn (getD (now (a .landings)) (a .root) 0) in
+    let held : Bool = isPart (full (a .k)) (markedTerminals (now (a .marks)) (now (a .landings))) in
+    let sum : Bool = eqb (a .total) (weightSum (now (a .file)) (a .count) (now (a .weights))) in
+    let counted : tree ≡ true = ap (λ (x : ℕ). eqb x (a .count + 1)) (sym (c .before .before .before .before .marked-count .ensures)) ∙ eq-eqb _ _ (c .before .before .before .if1 .left) in
+    let flagged : may-root ≡ false = sym (c .before .is-sender .ensures) ∙ not-true _ (c .if2 .taken) in
+    sym (ap (λ (o : Option PlanFault). answeredAs o (a .root) (a .total) (a .count)) (failed-root tree may-root held sum counted flagged))
 
 marked-terminals-requires : tie.Need-marked-terminals-requires
 marked-terminals-requires c κs = search needs
@@ -40,40 +63,46 @@ full-requires c κs = search needs
 is-part-of-requires : tie.Need-is-part-of-requires
 is-part-of-requires c κs = search needs
 
-returns-2 : tie.Need-returns-2
-returns-2 c =
-    let a = c .before .before .before .before .before .before .before .before .before .before .args in
+returns-3 : tie.Need-returns-3
+returns-3 c =
+    let a = c .before .before .before .before .before .before .before .before .before .before .before .before .before .args in
     let tree : Bool = eqb (markedCount (now (a .marks))) (a .count + 1) in
+    let may-root : Bool = senderIn (getD (now (a .landings)) (a .root) 0) in
     let held : Bool = isPart (full (a .k)) (markedTerminals (now (a .marks)) (now (a .landings))) in
     let sum : Bool = eqb (a .total) (weightSum (now (a .file)) (a .count) (now (a .weights))) in
-    let counted : tree ≡ true = ap (λ (x : ℕ). eqb x (a .count + 1)) (sym (c .before .before .before .before .before .marked-count .ensures)) ∙ eq-eqb _ _ (c .before .before .before .before .if1 .left) in
-    let parts : held ≡ false = ap₂ isPart (sym (c .before .before .full .ensures)) (sym (c .before .before .before .marked-terminals .ensures)) ∙ sym (c .before .is-part-of .ensures) ∙ not-true _ (c .if2 .taken) in
-    sym (ap (λ (o : Option PlanFault). answeredAs o (a .root) (a .total) (a .count)) (failed-held tree held sum counted parts))
+    let counted : tree ≡ true = ap (λ (x : ℕ). eqb x (a .count + 1)) (sym (c .before .before .before .before .before .before .before .before .marked-count .ensures)) ∙ eq-eqb _ _ (c .before .before .before .before .before .before .before .if1 .left) in
+    let flagged : may-root ≡ true = sym (c .before .before .before .before .before .is-sender .ensures) ∙ not-false _ (c .before .before .before .before .if2 .left) in
+    let parts : held ≡ false = ap₂ isPart (sym (c .before .before .full .ensures)) (sym (c .before .before .before .marked-terminals .ensures)) ∙ sym (c .before .is-part-of .ensures) ∙ not-true _ (c .if3 .taken) in
+    sym (ap (λ (o : Option PlanFault). answeredAs o (a .root) (a .total) (a .count)) (failed-held tree may-root held sum counted flagged parts))
 
 weight-sum-requires : tie.Need-weight-sum-requires
 weight-sum-requires c κs = search needs
 
-returns-3 : tie.Need-returns-3
-returns-3 c =
-    let a = c .before .before .before .before .before .before .before .before .before .before .before .before .args in
-    let tree : Bool = eqb (markedCount (now (a .marks))) (a .count + 1) in
-    let held : Bool = isPart (full (a .k)) (markedTerminals (now (a .marks)) (now (a .landings))) in
-    let sum : Bool = eqb (a .total) (weightSum (now (a .file)) (a .count) (now (a .weights))) in
-    let counted : tree ≡ true = ap (λ (x : ℕ). eqb x (a .count + 1)) (sym (c .before .before .before .before .before .before .before .marked-count .ensures)) ∙ eq-eqb _ _ (c .before .before .before .before .before .before .if1 .left) in
-    let parts : held ≡ true = ap₂ isPart (sym (c .before .before .before .before .full .ensures)) (sym (c .before .before .before .before .before .marked-terminals .ensures)) ∙ sym (c .before .before .before .is-part-of .ensures) ∙ not-false _ (c .before .before .if2 .left) in
-    let summed : sum ≡ false = ap (eqb (a .total)) (sym (c .before .weight-sum .ensures)) ∙ ne-eqb _ _ (c .if3 .taken) in
-    sym (ap (λ (o : Option PlanFault). answeredAs o (a .root) (a .total) (a .count)) (failed-sum tree held sum counted parts summed))
-
 returns-4 : tie.Need-returns-4
 returns-4 c =
-    let a = c .before .before .before .before .before .before .before .before .before .before .before .before .args in
+    let a = c .before .before .before .before .before .before .before .before .before .before .before .before .before .before .before .args in
     let tree : Bool = eqb (markedCount (now (a .marks))) (a .count + 1) in
+    let may-root : Bool = senderIn (getD (now (a .landings)) (a .root) 0) in
     let held : Bool = isPart (full (a .k)) (markedTerminals (now (a .marks)) (now (a .landings))) in
     let sum : Bool = eqb (a .total) (weightSum (now (a .file)) (a .count) (now (a .weights))) in
-    let counted : tree ≡ true = ap (λ (x : ℕ). eqb x (a .count + 1)) (sym (c .before .before .before .before .before .before .before .marked-count .ensures)) ∙ eq-eqb _ _ (c .before .before .before .before .before .before .if1 .left) in
-    let parts : held ≡ true = ap₂ isPart (sym (c .before .before .before .before .full .ensures)) (sym (c .before .before .before .before .before .marked-terminals .ensures)) ∙ sym (c .before .before .before .is-part-of .ensures) ∙ not-false _ (c .before .before .if2 .left) in
-    let summed : sum ≡ true = ap (eqb (a .total)) (sym (c .before .weight-sum .ensures)) ∙ eq-eqb _ _ (c .if3 .left) in
-    sym (ap (λ (o : Option PlanFault). answeredAs o (a .root) (a .total) (a .count)) (failed-none tree held sum counted parts summed))
+    let counted : tree ≡ true = ap (λ (x : ℕ). eqb x (a .count + 1)) (sym (c .before .before .before .before .before .before .before .before .before .before .marked-count .ensures)) ∙ eq-eqb _ _ (c .before .before .before .before .before .before .before .before .before .if1 .left) in
+    let flagged : may-root ≡ true = sym (c .before .before .before .before .before .before .before .is-sender .ensures) ∙ not-false _ (c .before .before .before .before .before .before .if2 .left) in
+    let parts : held ≡ true = ap₂ isPart (sym (c .before .before .before .before .full .ensures)) (sym (c .before .before .before .before .before .marked-terminals .ensures)) ∙ sym (c .before .before .before .is-part-of .ensures) ∙ not-false _ (c .before .before .if3 .left) in
+    let summed : sum ≡ false = ap (eqb (a .total)) (sym (c .before .weight-sum .ensures)) ∙ ne-eqb _ _ (c .if4 .taken) in
+    sym (ap (λ (o : Option PlanFault). answeredAs o (a .root) (a .total) (a .count)) (failed-sum tree may-root held sum counted flagged parts summed))
+
+returns-5 : tie.Need-returns-5
+returns-5 c =
+    let a = c .before .before .before .before .before .before .before .before .before .before .before .before .before .before .before .args in
+    let tree : Bool = eqb (markedCount (now (a .marks))) (a .count + 1) in
+    let may-root : Bool = senderIn (getD (now (a .landings)) (a .root) 0) in
+    let held : Bool = isPart (full (a .k)) (markedTerminals (now (a .marks)) (now (a .landings))) in
+    let sum : Bool = eqb (a .total) (weightSum (now (a .file)) (a .count) (now (a .weights))) in
+    let counted : tree ≡ true = ap (λ (x : ℕ). eqb x (a .count + 1)) (sym (c .before .before .before .before .before .before .before .before .before .before .marked-count .ensures)) ∙ eq-eqb _ _ (c .before .before .before .before .before .before .before .before .before .if1 .left) in
+    let flagged : may-root ≡ true = sym (c .before .before .before .before .before .before .before .is-sender .ensures) ∙ not-false _ (c .before .before .before .before .before .before .if2 .left) in
+    let parts : held ≡ true = ap₂ isPart (sym (c .before .before .before .before .full .ensures)) (sym (c .before .before .before .before .before .marked-terminals .ensures)) ∙ sym (c .before .before .before .is-part-of .ensures) ∙ not-false _ (c .before .before .if3 .left) in
+    let summed : sum ≡ true = ap (eqb (a .total)) (sym (c .before .weight-sum .ensures)) ∙ eq-eqb _ _ (c .if4 .left) in
+    sym (ap (λ (o : Option PlanFault). answeredAs o (a .root) (a .total) (a .count)) (failed-none tree may-root held sum counted flagged parts summed))
 
 pub test-plan-spec : {M : Type 1} → statement M
 test-plan-spec =
@@ -82,10 +111,14 @@ test-plan-spec =
     marked-count-requires
     add-if1
     returns
+    mul-is-sender
+    shared-slice-read-is-sender
+    is-sender-requires
+    returns-2
     marked-terminals-requires
     full-requires
     is-part-of-requires
-    returns-2
-    weight-sum-requires
     returns-3
-    returns-4)
+    weight-sum-requires
+    returns-4
+    returns-5)

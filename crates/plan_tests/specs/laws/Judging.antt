@@ -15,7 +15,8 @@ use Rattle.lists.specs.Every.{Every}
 use Rattle.lists.specs.Listed.{listed}
 use Rattle.lists.specs.Numbers.{value-in}
 use Rattle.lists.specs.Sums.{sumBy, sumTo, sumTo-same, sum-values}
-use Rattle.subset.specs.Sets.{empty, full, has, isPart, terminalsIn}
+use Rattle.subset.specs.Sets.{empty, full, has, isPart}
+use Rattle.landing_entries.specs.Entries.{terminalsIn}
 use Rattle.subset.specs.laws.Terminals.{has-empty}
 use Rattle.subset.specs.laws.Parts.{full-part, full-every}
 use Rattle.subset.specs.Unions.{unionTo, has-unionTo}

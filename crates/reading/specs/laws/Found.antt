@@ -6,9 +6,9 @@ use mathlib.Core.List.{List}
 use lib.ListN.{length}
 use lib.Dec.{ltb, eqb}
 use borrow.Author.Tests.{ltb-false, eqb-true}
-use Rattle.limits.specs.Marks.{markLK, markBK, markST, markED}
+use Rattle.limits.specs.Marks.{markLK, markBK, markST, markSR, markED}
 use Rattle.number_fields.specs.Fields.{number16}
-use Rattle.record_tests.specs.laws.Passed.{Passed, ReadFrom, EndOk, Known, cond-both, fault-known, test, one-way-known, both-ways-known, landing-known, mark-end-known}
+use Rattle.record_tests.specs.laws.Passed.{Passed, ReadFrom, EndOk, Known, cond-both, fault-known, test, one-way-known, both-ways-known, landing-known, sender-known, mark-end-known}
 use Rattle.reading.specs.Steps.{foundIn}
 use Rattle.records.specs.declared.record.Record.{Record}
 use Rattle.record_tests.specs.declared.Found.the-variants.{Item, End}
@@ -29,8 +29,9 @@ module _ (r : Reading) (bytes : List ℕ) where
       cond-both P (eqb mark markLK) _ _ (λ e. one-way-known at n k legs heard bytes two (eqb-true mark markLK e)) (λ _.
       cond-both P (eqb mark markBK) _ _ (λ e. both-ways-known at n k legs heard bytes two (eqb-true mark markBK e)) (λ _.
       cond-both P (eqb mark markST) _ _ (λ e. landing-known at n k legs heard bytes two (eqb-true mark markST e)) (λ _.
+      cond-both P (eqb mark markSR) _ _ (λ e. sender-known at n k legs heard bytes two (eqb-true mark markSR e)) (λ _.
       cond-both P (eqb mark markED) _ _ (λ e. mark-end-known at n k legs heard bytes two (eqb-true mark markED e)) (λ _.
-      fault-known at n k legs heard bytes _)))))
+      fault-known at n k legs heard bytes _))))))
 
   -- the record passes its tests
   pub found-item : (x : Record) → foundIn r bytes ≡ Item x → Passed (r .n) (r .k) (r .arcs) bytes x

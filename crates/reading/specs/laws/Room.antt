@@ -10,7 +10,7 @@ use Rattle.records.specs.Arcs.{arcsOf}
 use Rattle.records.specs.Landings.{LandsOne}
 use Rattle.record_tests.specs.laws.Passed.{Passed}
 use Rattle.records.specs.declared.record.Record.{Record}
-use Rattle.records.specs.declared.record.Record.the-variants.{OneWay, BothWays, Landing}
+use Rattle.records.specs.declared.record.Record.the-variants.{OneWay, BothWays, Landing, Sender}
 use Rattle.reading.specs.declared.Reading.{Reading}
 
 pub record Room (r : Reading) (x : Record) : Type 0 where
@@ -24,6 +24,7 @@ pub lands-one : (r : Reading) (x : Record) → Room r x → LandsOne x
 lands-one r (OneWay start end weight) room = tt
 lands-one r (BothWays start end weight) room = tt
 lands-one r (Landing terminal node) room = omega (arith, room .ok .0, room .terminals)
+lands-one r (Sender node) room = tt
 
 -- where a record is found, there is room for it
 pub room-found : (r : Reading) (s : List ℕ) (x : Record) → r .arcs ≤ maxArcs → r .k ≤ maxTerminals → r .offset ≤ length s → length s < 2 ^ 64

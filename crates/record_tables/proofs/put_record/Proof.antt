@@ -1,10 +1,11 @@
--- `record_tables::put_record` meets its contract. The tables have room for the record's legs and landing, and each table is what the record writes.
+-- `record_tables::put_record` meets its contract. The tables have room for the record's legs and for what joins an entry, and each table is what
+-- the record writes.
 -- Assumes nothing.
 use mathlib.Core.Path.{subst}
 use native.Mathlib.Omega.{arith}
 use denote.Ref.{now}
 use Rattle.lent_tables.specs.SheetTables.{sheetTables}
-use Rattle.record_tables.specs.laws.Writing.{Fits, one-way-written, both-ways-written, landing-written}
+use Rattle.record_tables.specs.laws.Writing.{Fits, one-way-written, both-ways-written, landing-written, sender-written}
 use Rattle.records.specs.declared.record.Record.{Record}
 use borrow.Author.Needs.{needs}
 use Rattle.record_tables.proofs.put_record.Statement.{statement}
@@ -33,11 +34,28 @@ put-both-requires c κs =
 enum-known-item-3 : tie.Need-enum-known-item-3
 enum-known-item-3 c = search needs
 
-put-landing-requires : tie.Need-put-landing-requires
-put-landing-requires c κs =
+single-requires : tie.Need-single-requires
+single-requires c κs =
+    let a = c .before .before .before .before .before .before .before .args in
+    let t = sheetTables (now (a .starts)) (now (a .ends)) (now (a .weights)) (now (a .landings)) in
+    let f = subst (λ (x : Record). Fits (a .at) x t) (c .before .item3 .given .1) (c .before .before .before .before .before .before .before .pre) in
+    f .landings .1
+
+join-entry-requires : tie.Need-join-entry-requires
+join-entry-requires c κs =
+    let a = c .before .before .before .before .before .before .before .before .before .args in
+    let t = sheetTables (now (a .starts)) (now (a .ends)) (now (a .weights)) (now (a .landings)) in
+    let f = subst (λ (x : Record). Fits (a .at) x t) (c .before .before .before .item3 .given .1) (c .before .before .before .before .before .before .before .before .before .pre) in
+    f .landings .0
+
+enum-known-item-4 : tie.Need-enum-known-item-4
+enum-known-item-4 c = search needs
+
+join-entry-requires-2 : tie.Need-join-entry-requires-2
+join-entry-requires-2 c κs =
     let a = c .before .before .before .before .before .before .before .before .args in
     let t = sheetTables (now (a .starts)) (now (a .ends)) (now (a .weights)) (now (a .landings)) in
-    let f = subst (λ (x : Record). Fits (a .at) x t) (c .before .before .item3 .given .1) (c .before .before .before .before .before .before .before .before .pre) in
+    let f = subst (λ (x : Record). Fits (a .at) x t) (c .before .before .item4 .given .1) (c .before .before .before .before .before .before .before .before .pre) in
     f .landings
 
 same-length : tie.Need-same-length
@@ -77,9 +95,18 @@ same-length-7 c = search needs
 
 returns-3 : tie.Need-returns-3
 returns-3 c =
+    let a = c .before .before .before .before .before .before .before .before .before .before .before .before .args in
+    let t = sheetTables (now (a .starts)) (now (a .ends)) (now (a .weights)) (now (a .landings)) in
+    landing-written (a .at) (a .item) t _ (c .before .before .before .before .before .before .item3 .given .1) (c .before .before .before .before .single .ensures) (c .before .before .join-entry .ensures)
+
+same-length-8 : tie.Need-same-length-8
+same-length-8 c = search needs
+
+returns-4 : tie.Need-returns-4
+returns-4 c =
     let a = c .before .before .before .before .before .before .before .before .before .before .before .args in
     let t = sheetTables (now (a .starts)) (now (a .ends)) (now (a .weights)) (now (a .landings)) in
-    landing-written (a .at) (a .item) t _ (c .before .before .before .before .before .item3 .given .1) (c .before .before .put-landing .ensures)
+    sender-written (a .at) (a .item) t _ (c .before .before .before .before .before .item4 .given .1) (c .before .before .join-entry2 .ensures)
 
 pub put-record-spec : {M : Type 1} → statement M
 put-record-spec =
@@ -90,7 +117,10 @@ put-record-spec =
     enum-known-item-2
     put-both-requires
     enum-known-item-3
-    put-landing-requires
+    single-requires
+    join-entry-requires
+    enum-known-item-4
+    join-entry-requires-2
     same-length
     same-length-2
     same-length-3
@@ -100,4 +130,6 @@ put-record-spec =
     same-length-6
     returns-2
     same-length-7
-    returns-3)
+    returns-3
+    same-length-8
+    returns-4)

@@ -1,21 +1,21 @@
--- What loaded tables say, entry by entry: the legs in order, each site's set of stations, and past them what stood there before.
+-- What loaded tables say, entry by entry: the legs in order, each site's stations and whether it is a sender, and past them what stood there before.
 -- Assumes nothing.
 use Prim.Native.Nat.{ℕ, _≤_, _<_}
 use mathlib.Core.Path.{_≡_, ap, _∙_}
 use mathlib.Core.List.{List, map}
-use native.Mathlib.Nat.{mod-eq-of-lt, lt-of-lt-of-le}
 use native.Mathlib.Omega.{arith}
 use lib.ListN.{length, getD, length-map, List·getD-map}
-use lib.Pow.{pow-mono}
 use Rattle.limits.specs.Limits.{maxTerminals}
 use Rattle.lists.specs.Every.{Every}
 use Rattle.lists.specs.Numbers.{length-values, getD-values}
 use Rattle.lists.specs.Over.{over, getD-over, getD-later}
-use Rattle.subset.specs.Sets.{terminalsIn}
+use Rattle.landing_entries.specs.Entries.{terminalsIn, senderIn}
+use Rattle.landing_entries.specs.laws.EntryLaws.{terminals-said, sender-said}
 use Rattle.records.specs.Arcs.{Arc, arc, arcs, arcAt}
-use Rattle.records.specs.Landings.{terminalsAt, terminalSets}
+use Rattle.records.specs.Landings.{terminalsAt}
+use Rattle.records.specs.Senders.{isSender, landingEntry, landingEntries}
 use Rattle.records.specs.Records.{RecordOk}
-use Rattle.records.specs.laws.Heard.{terminalsAt-lt}
+use Rattle.records.specs.laws.Entries.{few-terminals}
 use Rattle.records.specs.declared.record.Record.{Record}
 use Rattle.lent_tables.specs.SheetTables.{SheetTables}
 use Rattle.record_tables.specs.Loaded.{loaded}
@@ -43,17 +43,20 @@ module _ (n : ℕ) (records : List Record) (t : SheetTables) where
     unfolding loaded
     weight-held = column-held (λ a. a .weight) (t .weights) i h
 
-  pub landing-held : (v : ℕ) → v < n → getD (loaded n records t .landings) v 0 ≡ terminalsAt records v
+  pub landing-held : (v : ℕ) → v < n → getD (loaded n records t .landings) v 0 ≡ landingEntry records v
   unfolding loaded
   landing-held v h =
-      getD-over (terminalSets n records) (t .landings) v 0 (omega (arith, length-values (terminalsAt records) 0 n))
-      ∙ getD-values (terminalsAt records) 0 n v 0 h ∙ ap (terminalsAt records) (omega arith)
+      getD-over (landingEntries n records) (t .landings) v 0 (omega (arith, length-values (landingEntry records) 0 n))
+      ∙ getD-values (landingEntry records) 0 n v 0 h ∙ ap (landingEntry records) (omega arith)
 
-  -- the entry of a site says its set of stations
-  pub terminals-held : (k : ℕ) → k ≤ maxTerminals → Every (RecordOk n k) records → (v : ℕ) → v < n
-      → terminalsIn (getD (loaded n records t .landings) v 0) ≡ terminalsAt records v
-  terminals-held k b each v h =
-      ap terminalsIn (landing-held v h) ∙ mod-eq-of-lt (lt-of-lt-of-le (terminalsAt-lt n k records v each) (pow-mono b))
+  -- the entry of a site says its set of stations, and whether it is a sender
+  module _ (k : ℕ) (b : k ≤ maxTerminals) (each : Every (RecordOk n k) records) (v : ℕ) (h : v < n) where
+    pub terminals-held : terminalsIn (getD (loaded n records t .landings) v 0) ≡ terminalsAt records v
+    terminals-held =
+        ap terminalsIn (landing-held v h) ∙ terminals-said (terminalsAt records v) (few-terminals n k b v records each) (isSender records v)
+
+    pub sender-held : senderIn (getD (loaded n records t .landings) v 0) ≡ isSender records v
+    sender-held = ap senderIn (landing-held v h) ∙ sender-said (terminalsAt records v) (few-terminals n k b v records each) (isSender records v)
 
   -- later entries are untouched
   module _ (i : ℕ) (h : length (arcs records) ≤ i) where
@@ -71,4 +74,4 @@ module _ (n : ℕ) (records : List Record) (t : SheetTables) where
 
   pub landing-later : (v : ℕ) → n ≤ v → getD (loaded n records t .landings) v 0 ≡ getD (t .landings) v 0
   unfolding loaded
-  landing-later v h = getD-later (terminalSets n records) (t .landings) v 0 (omega (arith, length-values (terminalsAt records) 0 n))
+  landing-later v h = getD-later (landingEntries n records) (t .landings) v 0 (omega (arith, length-values (landingEntry records) 0 n))

@@ -5,21 +5,20 @@ use mathlib.Core.Path.{_≡_, refl, sym, ap, ap₂, _∙_, subst}
 use mathlib.Core.Logic.{_≢_}
 use mathlib.Core.List.{List, [], _∷_, _++_, map, append-assoc, append-nil}
 use native.Mathlib.Omega.{arith}
-use borrow.Author.Tests.{eq-eqb, ne-eqb}
-use lib.Bits.{or-zero-r}
 use lib.ListN.{length, getD, drop, set, replicate, length-append, length-map}
-use Rattle.limits.specs.Limits.{maxTerminals}
-use Rattle.lists.specs.Numbers.{length-values, getD-values, same-values, set-values, constant-values}
+use Rattle.limits.specs.Limits.{maxTerminals, senderFlag}
+use Rattle.lists.specs.Numbers.{length-values, getD-values, constant-values}
 use Rattle.lists.specs.Over.{over, over-more, over-set, over-over, getD-over, length-over}
-use Rattle.subset.specs.Sets.{empty, single, union}
+use Rattle.subset.specs.Sets.{single, union}
 use Rattle.records.specs.Arcs.{Arc, arcsOf, arcs}
-use Rattle.records.specs.Landings.{terminalsOf, terminalsAt, terminalSets}
+use Rattle.records.specs.Senders.{landingEntry, landingEntries}
 use Rattle.records.specs.Records.{RecordOk}
-use Rattle.records.specs.laws.Appended.{arcs-more, count-more, terminals-more}
+use Rattle.records.specs.laws.Appended.{arcs-more, count-more}
+use Rattle.records.specs.laws.Entries.{joins, joinedAt, joinedEntries, joined-none, joined-one, landing-joins, landing-joins-not, sender-joins, sender-joins-not}
 use Rattle.lent_tables.specs.SheetTables.{SheetTables, withArcTables, withLandings, Long, SameLengths, long-fewer}
 use Rattle.record_tables.specs.Loaded.{filled, loaded}
 use Rattle.records.specs.declared.record.Record.{Record}
-use Rattle.records.specs.declared.record.Record.the-variants.{OneWay, BothWays, Landing}
+use Rattle.records.specs.declared.record.Record.the-variants.{OneWay, BothWays, Landing, Sender}
 
 -- ---- what one record writes
 
@@ -32,27 +31,31 @@ abbrev pub withArcs : ℕ → List Arc → SheetTables → SheetTables
 withArcs i [] t = t
 withArcs i (a ∷ list) t = withArcs (i + 1) list (withArc i a t)
 
--- the station of a landing joins the set of its site
-abbrev pub withLanding : Record → SheetTables → SheetTables
-withLanding (OneWay start end weight) t = t
-withLanding (BothWays start end weight) t = t
-withLanding (Landing terminal node) t =
-    withLandings (set (t .landings) node (union (getD (t .landings) node 0) (single terminal))) t
+-- something joins the entry of a site: the station of a landing, or the flag of a sender
+abbrev pub withJoined : (node more : ℕ) → SheetTables → SheetTables
+withJoined node more t = withLandings (set (t .landings) node (union (getD (t .landings) node 0) more)) t
+
+abbrev pub withEntry : Record → SheetTables → SheetTables
+withEntry (OneWay start end weight) t = t
+withEntry (BothWays start end weight) t = t
+withEntry (Landing terminal node) t = withJoined node (single terminal) t
+withEntry (Sender node) t = withJoined node senderFlag t
 
 -- a record, where i legs stand in the tables
 abbrev pub withRecord : ℕ → Record → SheetTables → SheetTables
-withRecord i x t = withLanding x (withArcs i (arcsOf x) t)
+withRecord i x t = withEntry x (withArcs i (arcsOf x) t)
 
--- the site of a landing is in a table of that length, and the station is one of ten
-abbrev pub LandingFits : Record → ℕ → Type 0
-LandingFits (OneWay start end weight) nodes = Unit {0}
-LandingFits (BothWays start end weight) nodes = Unit {0}
-LandingFits (Landing terminal node) nodes = (node < nodes) × (terminal < maxTerminals)
+-- the site of a landing or a sender is in a table of that length, and the station is one of ten
+abbrev pub EntryFits : Record → ℕ → Type 0
+EntryFits (OneWay start end weight) nodes = Unit {0}
+EntryFits (BothWays start end weight) nodes = Unit {0}
+EntryFits (Landing terminal node) nodes = (node < nodes) × (terminal < maxTerminals)
+EntryFits (Sender node) nodes = node < nodes
 
 -- the tables have room for a record after i legs
 pub record Fits (i : ℕ) (x : Record) (t : SheetTables) : Type 0 where
   pub arcs : Long 0 (i + length (arcsOf x)) t
-  pub landings : LandingFits x (length (t .landings))
+  pub landings : EntryFits x (length (t .landings))
 
 -- ---- what the code writes, table by table
 
@@ -65,11 +68,21 @@ module _ (i : ℕ) {start end weight : ℕ} (x : Record) (t : SheetTables) (star
       → weights ≡ set (set (t .weights) i weight) (i + 1) weight → withArcTables starts ends weights t ≡ withRecord i x t
   both-ways-written e a b c = (λ j. withArcTables (a j) (b j) (c j) t) ∙ ap (λ (y : Record). withRecord i y t) (sym e)
 
-pub landing-written : (i : ℕ) {terminal node : ℕ} (x : Record) (t : SheetTables) (landings : List ℕ) → x ≡ Landing terminal node
-    → landings ≡ set (t .landings) node (union (getD (t .landings) node 0) (single terminal)) → withLandings landings t ≡ withRecord i x t
-landing-written i x t landings e a = ap (λ (l : List ℕ). withLandings l t) a ∙ ap (λ (y : Record). withRecord i y t) (sym e)
+module _ (i : ℕ) {node : ℕ} (x : Record) (t : SheetTables) (landings : List ℕ) where
+  pub landing-written : {terminal more : ℕ} → x ≡ Landing terminal node → more ≡ single terminal
+      → landings ≡ set (t .landings) node (union (getD (t .landings) node 0) more) → withLandings landings t ≡ withRecord i x t
+  landing-written e m a =
+      ap (λ (l : List ℕ). withLandings l t) a ∙ ap (λ (y : ℕ). withJoined node y t) m ∙ ap (λ (y : Record). withRecord i y t) (sym e)
+
+  pub sender-written : x ≡ Sender node → landings ≡ set (t .landings) node (union (getD (t .landings) node 0) senderFlag)
+      → withLandings landings t ≡ withRecord i x t
+  sender-written e a = ap (λ (l : List ℕ). withLandings l t) a ∙ ap (λ (y : Record). withRecord i y t) (sym e)
 
 -- ---- the tables then hold one record more
+
+-- the tables when some records have been read: their legs in order, and what they join to each site's entry; later entries are untouched
+unfoldable pub readIn : ℕ → List Record → SheetTables → SheetTables
+readIn n records t = filled (arcs records) (joinedEntries n records) t
 
 -- one column of the legs
 column-more : (f : Arc → ℕ) (list : List Arc) (a : Arc) (old : List ℕ) → length list < length old
@@ -105,80 +118,72 @@ arcs-written (b ∷ bs) list sets n t l =
     (long-fewer n (length (list ++ (b ∷ [])) + length bs) (length list + length (b ∷ bs)) t (omega (arith, more)) l)
     ∙ ap (λ (list' : List Arc). filled list' sets t) (append-assoc list (b ∷ []) bs)
 
--- a link leaves the sets of stations as they are
-sets-link : (n : ℕ) (records : List Record) (x : Record) → ((v : ℕ) → terminalsOf x v ≡ empty) → terminalSets n (records ++ (x ∷ [])) ≡ terminalSets n records
-sets-link n records x e =
-    same-values (terminalsAt (records ++ (x ∷ []))) (terminalsAt records) n
-    (λ v h. terminals-more records x v ∙ ap (union (terminalsAt records v)) (e v) ∙ or-zero-r (terminalsAt records v))
-
--- a landing joins the set of its site
-sets-landing : (n terminal node : ℕ) (records : List Record) → node < n
-    → set (terminalSets n records) node (union (terminalsAt records node) (single terminal)) ≡ terminalSets n (records ++ (Landing terminal node ∷ []))
-sets-landing n terminal node records h =
-    ap (set (terminalSets n records) node) (sym here)
-    ∙ set-values (terminalsAt records) (terminalsAt (records ++ (Landing terminal node ∷ []))) n node h elsewhere
-  where
-    here : terminalsAt (records ++ (Landing terminal node ∷ [])) node ≡ union (terminalsAt records node) (single terminal)
-    here = terminals-more records (Landing terminal node) node ∙ rw (eq-eqb node node refl)
-
-    elsewhere : (v : ℕ) → v ≢ node → terminalsAt records v ≡ terminalsAt (records ++ (Landing terminal node ∷ [])) v
-    elsewhere v ne = sym (terminals-more records (Landing terminal node) v ∙ rw (ne-eqb node v (λ e. ne (sym e))) (or-zero-r (terminalsAt records v)))
-
 module _ (n : ℕ) (records : List Record) (t : SheetTables) where
-  link-more : (x : Record) → ((v : ℕ) → terminalsOf x v ≡ empty) → Long n (length (arcs (records ++ (x ∷ [])))) t
-      → withArcs (length (arcs records)) (arcsOf x) (loaded n records t) ≡ loaded n (records ++ (x ∷ [])) t
-  unfolding loaded
+  link-more : (x : Record) → ((v : ℕ) → joins v x ≡ 0) → Long n (length (arcs (records ++ (x ∷ [])))) t
+      → withArcs (length (arcs records)) (arcsOf x) (readIn n records t) ≡ readIn n (records ++ (x ∷ [])) t
+  unfolding readIn
   link-more x e l =
-      arcs-written (arcsOf x) (arcs records) (terminalSets n records) n t (subst (λ (m : ℕ). Long n m t) (count-more records x) l)
-      ∙ ap₂ (λ (list : List Arc) (sets : List ℕ). filled list sets t) (sym (arcs-more records x)) (sym (sets-link n records x e))
+      arcs-written (arcsOf x) (arcs records) (joinedEntries n records) n t (subst (λ (m : ℕ). Long n m t) (count-more records x) l)
+      ∙ ap₂ (λ (list : List Arc) (entries : List ℕ). filled list entries t) (sym (arcs-more records x)) (sym (joined-none n records x e))
 
-  landing-more : (terminal node : ℕ) → node < n
-      → set (over (terminalSets n records) (t .landings)) node (union (getD (over (terminalSets n records) (t .landings)) node 0) (single terminal))
-      ≡ over (terminalSets n (records ++ (Landing terminal node ∷ []))) (t .landings)
-  landing-more terminal node h =
-      let sets : List ℕ = terminalSets n records in
-      let b : node < length sets = omega (arith, length-values (terminalsAt records) 0 n) in
-      let w : getD (over sets (t .landings)) node 0 ≡ terminalsAt records node = getD-over sets (t .landings) node 0 b ∙ getD-values (terminalsAt records) 0 n node 0 h ∙ ap (terminalsAt records) (omega arith) in
-      ap (λ (x : ℕ). set (over sets (t .landings)) node (union x (single terminal))) w
-      ∙ over-set sets (t .landings) node (union (terminalsAt records node) (single terminal)) b
-      ∙ ap (λ (l : List ℕ). over l (t .landings)) (sets-landing n terminal node records h)
+  entry-more : (x : Record) (node more : ℕ) → arcsOf x ≡ [] → node < n → joins node x ≡ more → ((v : ℕ) → v ≢ node → joins v x ≡ 0)
+      → withJoined node more (readIn n records t) ≡ readIn n (records ++ (x ∷ [])) t
+  unfolding readIn
+  entry-more x node more none h here elsewhere =
+      let entries : List ℕ = joinedEntries n records in
+      let b : node < length entries = omega (arith, length-values (joinedAt records) 0 n) in
+      let w : getD (over entries (t .landings)) node 0 ≡ joinedAt records node = getD-over entries (t .landings) node 0 b ∙ getD-values (joinedAt records) 0 n node 0 h ∙ ap (joinedAt records) (omega arith) in
+      ap (λ (l : List ℕ). withLandings l (filled (arcs records) entries t))
+      (ap (λ (y : ℕ). set (over entries (t .landings)) node (union y more)) w
+      ∙ over-set entries (t .landings) node (union (joinedAt records node) more) b
+      ∙ ap (λ (l : List ℕ). over l (t .landings)) (joined-one n node more records x h here elsewhere))
+      ∙ ap (λ (list : List Arc). filled list (joinedEntries n (records ++ (x ∷ []))) t) (sym same)
+    where
+      same : arcs (records ++ (x ∷ [])) ≡ arcs records
+      same = arcs-more records x ∙ ap (λ (l : List Arc). arcs records ++ l) none ∙ append-nil (arcs records)
 
   -- one record more
-  pub loaded-more : (k : ℕ) (x : Record) → RecordOk n k x → Long n (length (arcs (records ++ (x ∷ [])))) t
-      → withRecord (length (arcs records)) x (loaded n records t) ≡ loaded n (records ++ (x ∷ [])) t
-  unfolding loaded
-  loaded-more k (OneWay start end weight) ok l = link-more (OneWay start end weight) (λ v. refl) l
-  loaded-more k (BothWays start end weight) ok l = link-more (BothWays start end weight) (λ v. refl) l
-  loaded-more k (Landing terminal node) ok l =
-      ap (λ (l : List ℕ). withLandings l (filled (arcs records) (terminalSets n records) t)) (landing-more terminal node (ok .1))
-      ∙ ap (λ (list : List Arc). filled list (terminalSets n (records ++ (Landing terminal node ∷ []))) t) (sym same)
-    where
-      same : arcs (records ++ (Landing terminal node ∷ [])) ≡ arcs records
-      same = arcs-more records (Landing terminal node) ∙ append-nil (arcs records)
+  pub read-more : (k : ℕ) (x : Record) → RecordOk n k x → Long n (length (arcs (records ++ (x ∷ [])))) t
+      → withRecord (length (arcs records)) x (readIn n records t) ≡ readIn n (records ++ (x ∷ [])) t
+  read-more k (OneWay start end weight) ok l = link-more (OneWay start end weight) (λ v. refl) l
+  read-more k (BothWays start end weight) ok l = link-more (BothWays start end weight) (λ v. refl) l
+  read-more k (Landing terminal node) ok l =
+      entry-more (Landing terminal node) node (single terminal) refl (ok .1) (landing-joins terminal node) (landing-joins-not terminal node)
+  read-more k (Sender node) ok l = entry-more (Sender node) node senderFlag refl ok (sender-joins node) (sender-joins-not node)
 
-  -- no record yet: the first n sets are empty, and nothing else is written
-  pub loaded-none : loaded n [] t ≡ withLandings (replicate n 0 ++ drop n (t .landings)) t
-  unfolding loaded
-  loaded-none = ap (λ (l : List ℕ). withLandings l t) (ap₂ (λ (l : List ℕ) (m : ℕ). l ++ drop m (t .landings)) (constant-values n 0) (length-values (λ v. 0) 0 n))
+  -- no record yet: the first n entries are empty, and nothing else is written
+  pub read-none : readIn n [] t ≡ withLandings (replicate n 0 ++ drop n (t .landings)) t
+  unfolding readIn
+  read-none = ap (λ (l : List ℕ). withLandings l t) (ap₂ (λ (l : List ℕ) (m : ℕ). l ++ drop m (t .landings)) (constant-values n 0) (length-values (λ v. 0) 0 n))
 
   -- what stood in the first entries before makes no difference
-  pub loaded-anew : loaded n records (loaded n [] t) ≡ loaded n records t
-  unfolding loaded
-  loaded-anew =
-      ap (λ (l : List ℕ). withLandings l (filled (arcs records) (terminalSets n records) t))
-      (over-over (terminalSets n records) (terminalSets n []) (t .landings)
-      (length-values (terminalsAt []) 0 n ∙ sym (length-values (terminalsAt records) 0 n)))
+  pub read-anew : readIn n records (readIn n [] t) ≡ readIn n records t
+  unfolding readIn
+  read-anew =
+      ap (λ (l : List ℕ). withLandings l (filled (arcs records) (joinedEntries n records) t))
+      (over-over (joinedEntries n records) (joinedEntries n []) (t .landings)
+      (length-values (joinedAt []) 0 n ∙ sym (length-values (joinedAt records) 0 n)))
 
--- the tables stay as long as they were
-pub loaded-lengths : (n : ℕ) (records : List Record) (t : SheetTables) → Long n (length (arcs records)) t → SameLengths (loaded n records t) t
-unfolding loaded
-loaded-lengths n records t l =
+-- ---- the tables stay as long as they were
+
+filled-lengths : (n : ℕ) (list : List Arc) (entries : List ℕ) (t : SheetTables) → length entries ≡ n → Long n (length list) t
+    → SameLengths (filled list entries t) t
+filled-lengths n list entries t e l =
     record {
       starts = column (λ a. a .start) (t .starts) (l .starts);
       ends = column (λ a. a .end) (t .ends) (l .ends);
       weights = column (λ a. a .weight) (t .weights) (l .weights);
-      landings = length-over (terminalSets n records) (t .landings) (omega (arith, length-values (terminalsAt records) 0 n, l .landings));
+      landings = length-over entries (t .landings) (omega (arith, e, l .landings));
     }
   where
-    column : (f : Arc → ℕ) (old : List ℕ) → length (arcs records) ≤ length old → length (over (map f (arcs records)) old) ≡ length old
-    column f old h = length-over (map f (arcs records)) old (omega (arith, length-map (arcs records) f))
+    column : (f : Arc → ℕ) (old : List ℕ) → length list ≤ length old → length (over (map f list) old) ≡ length old
+    column f old h = length-over (map f list) old (omega (arith, length-map list f))
+
+module _ (n : ℕ) (records : List Record) (t : SheetTables) (l : Long n (length (arcs records)) t) where
+  pub read-lengths : SameLengths (readIn n records t) t
+  unfolding readIn
+  read-lengths = filled-lengths n (arcs records) (joinedEntries n records) t (length-values (joinedAt records) 0 n) l
+
+  pub loaded-lengths : SameLengths (loaded n records t) t
+  unfolding loaded
+  loaded-lengths = filled-lengths n (arcs records) (landingEntries n records) t (length-values (landingEntry records) 0 n) l

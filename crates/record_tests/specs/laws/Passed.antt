@@ -9,19 +9,20 @@ use lib.ListN.{length, drop, length-drop}
 use lib.Dec.{ltb, leb, eqb}
 use borrow.Author.Tests.{ltb-false, leb-false, eqb-true, eqb-false}
 use Rattle.limits.specs.Limits.{maxArcs, minWeight, maxWeight}
-use Rattle.limits.specs.Marks.{markLK, markBK, markST, markED}
+use Rattle.limits.specs.Marks.{markLK, markBK, markST, markSR, markED}
 use Rattle.lists.specs.Tests.{by-test}
 use Rattle.answer.specs.declared.SheetFault.{SheetFault}
 use Rattle.subset.specs.Sets.{full}
 use Rattle.number_fields.specs.Fields.{number8, number16, number32}
-use Rattle.records.specs.Records.{LinkOk, RecordOk, linkFields, landingFields, size}
+use Rattle.records.specs.Records.{LinkOk, RecordOk, linkFields, landingFields, senderFields, size}
 use Rattle.records.specs.Arcs.{arcsOf}
-use Rattle.record_tests.specs.Tests.{linkTests, oneWayFound, bothWaysFound, landingFound, endFound}
+use Rattle.record_tests.specs.Tests.{linkTests, oneWayFound, bothWaysFound, landingFound, senderFound, endFound}
 use Rattle.records.specs.declared.fields.LinkFields.{LinkFields}
 use Rattle.records.specs.declared.fields.LinkFields.the-variants.{Short as NoLink, Fields as Link}
 use Rattle.records.specs.declared.fields.LandingFields.{LandingFields}
+use Rattle.records.specs.declared.fields.SenderFields.{SenderFields}
 use Rattle.records.specs.declared.record.Record.{Record}
-use Rattle.records.specs.declared.record.Record.the-variants.{OneWay, BothWays, Landing}
+use Rattle.records.specs.declared.record.Record.the-variants.{OneWay, BothWays, Landing, Sender}
 use Rattle.record_tests.specs.declared.Found.{Found}
 use Rattle.record_tests.specs.declared.Found.the-variants.{Item, End, Fault}
 
@@ -47,11 +48,16 @@ pub record LandingRead (bytes : List ℕ) (terminal node : ℕ) : Type 0 where
   pub terminal-is : number8 (drop 2 bytes) 0 ≡ terminal
   pub node-is : number16 (drop 2 bytes) 1 ≡ node
 
+pub record SenderRead (bytes : List ℕ) (node : ℕ) : Type 0 where
+  pub mark-is : number16 bytes 0 ≡ markSR
+  pub node-is : number16 (drop 2 bytes) 0 ≡ node
+
 -- the record is read from the start of the bytes
 abbrev pub ReadFrom : List ℕ → Record → Type 0
 ReadFrom bytes (OneWay start end weight) = LinkRead bytes markLK start end weight
 ReadFrom bytes (BothWays start end weight) = LinkRead bytes markBK start end weight
 ReadFrom bytes (Landing terminal node) = LandingRead bytes terminal node
+ReadFrom bytes (Sender node) = SenderRead bytes node
 
 -- the bytes are the end of the sheet, and every station has a landing
 pub record EndOk (k heard : ℕ) (bytes : List ℕ) : Type 0 where
@@ -152,6 +158,19 @@ module _ (at n k legs heard : ℕ) (bytes : List ℕ) where
       item-known x
       (record { ok = (leb-false k terminal t1, leb-false n node t2); few = λ h. omega arith; whole = enough bytes 3 e two })
       (record { mark-is = mark-is; terminal-is = refl; node-is = refl }))))
+
+  pub sender-known : 2 ≤ length bytes → number16 bytes 0 ≡ markSR
+      → Known n k legs heard bytes (senderFound at n (senderFields (drop 2 bytes)))
+  sender-known two mark-is =
+      let node = number16 (drop 2 bytes) 0 in
+      let x : Record = Sender node in
+      cond-both (λ (f : SenderFields). Known n k legs heard bytes (senderFound at n f)) (ltb (length (drop 2 bytes)) 2) _ _
+      (λ _. fault-known _)
+      (λ e.
+      test (leb n node) _ _ (λ t.
+      item-known x
+      (record { ok = leb-false n node t; few = λ h. omega arith; whole = enough bytes 2 e two })
+      (record { mark-is = mark-is; node-is = refl })))
 
   -- the end of the sheet
   pub mark-end-known : 2 ≤ length bytes → number16 bytes 0 ≡ markED

@@ -14,7 +14,7 @@ use Rattle.subset.specs.laws.Parts.{terminals-lt, every-full, full-every}
 use Rattle.records.specs.Landings.{Heard, terminalsOf, terminalsAt, heardBy, heard}
 use Rattle.records.specs.Records.{RecordOk}
 use Rattle.records.specs.declared.record.Record.{Record}
-use Rattle.records.specs.declared.record.Record.the-variants.{OneWay, BothWays, Landing}
+use Rattle.records.specs.declared.record.Record.the-variants.{OneWay, BothWays, Landing, Sender}
 
 -- ---- one record
 
@@ -30,11 +30,13 @@ heardBy-has : (x : Record) (i : ℕ) → T (has (heardBy x) i) → (v : ℕ) × 
 heardBy-has (OneWay start end weight) i t = absurd (subst T (has-empty i) t)
 heardBy-has (BothWays start end weight) i t = absurd (subst T (has-empty i) t)
 heardBy-has (Landing terminal node) i t = (node, ap (λ (j : ℕ). Landing j node) (single-has terminal i t))
+heardBy-has (Sender node) i t = absurd (subst T (has-empty i) t)
 
 -- and with i in its set at site v, a landing of i at v
 terminalsOf-has : (x : Record) (v i : ℕ) → T (has (terminalsOf x v) i) → Landing i v ≡ x
 terminalsOf-has (OneWay start end weight) v i t = absurd (subst T (has-empty i) t)
 terminalsOf-has (BothWays start end weight) v i t = absurd (subst T (has-empty i) t)
+terminalsOf-has (Sender node) v i t = absurd (subst T (has-empty i) t)
 terminalsOf-has (Landing terminal node) v i t = go (eqb node v) refl t
   where
     go : (b : Bool) → eqb node v ≡ b → T (has (cond b (single terminal) empty) i) → Landing i v ≡ Landing terminal node

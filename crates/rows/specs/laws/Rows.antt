@@ -12,7 +12,7 @@ use lib.ListN.{length, getD, take, drop, length-append, length-drop, List·getD-
 use lib.Seq.{getD-take, getD-drop, getD-append-add, length-take-le, ext-getD}
 use Rattle.limits.specs.Limits.{maxNodes, maxSubsets}
 use Rattle.lists.specs.Numbers.{numbers}
-use Rattle.subset.specs.Sets.{terminalsIn}
+use Rattle.landing_entries.specs.Entries.{terminalsIn}
 use Rattle.cost_table.specs.Cells.{cellIn}
 use Rattle.working_none.specs.laws.Low.{entry, AllLow}
 use Rattle.rows.specs.laws.Start.{startCell}

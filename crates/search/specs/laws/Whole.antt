@@ -16,7 +16,8 @@ use lib.Dec.{eqb}
 use Rattle.limits.specs.Limits.{maxNodes, maxTerminals, maxSubsets, maxWeight, noCost}
 use Rattle.lists.specs.Numbers.{numbers, length-values, getD-values}
 use Rattle.lists.specs.Over.{over}
-use Rattle.subset.specs.Sets.{single, terminalsIn}
+use Rattle.subset.specs.Sets.{single}
+use Rattle.landing_entries.specs.Entries.{terminalsIn}
 use Rattle.subset.specs.laws.Terminals.{has-lt}
 use Rattle.subset.specs.laws.Parts.{part-le}
 use Rattle.order.specs.Order.{inOrder}

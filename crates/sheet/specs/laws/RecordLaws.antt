@@ -10,14 +10,14 @@ use lib.Seq.{drop-drop}
 use lib.Dec.{ltb}
 use borrow.Author.Tests.{le-ltb, lt-leb, eq-eqb, ne-eqb}
 use Rattle.limits.specs.Limits.{minNodes, maxNodes, minTerminals, maxTerminals, maxArcs, minWeight, maxWeight}
-use Rattle.limits.specs.Marks.{markHD, markLK, markBK, markST, markED}
+use Rattle.limits.specs.Marks.{markHD, markLK, markBK, markST, markSR, markED}
 use Rattle.lists.specs.Every.{every-drop}
 use Rattle.subset.specs.Sets.{full}
 use Rattle.number_fields.specs.Fields.{Bytes, bytes16, bytes32}
 use Rattle.number_fields.specs.laws.FieldLaws.{number16-bytes, number32-bytes, field8, field16, field32}
 use Rattle.records.specs.Records.{LinkOk, RecordOk, linkFields, headBytes, recordBytes, endBytes, headSize, size}
 use Rattle.records.specs.Arcs.{arcsOf}
-use Rattle.record_tests.specs.Tests.{linkTests, oneWayFound, bothWaysFound, landingFound}
+use Rattle.record_tests.specs.Tests.{linkTests, oneWayFound, bothWaysFound, landingFound, senderFound}
 use Rattle.record_tests.specs.laws.Passed.{LinkRead, ReadFrom, EndOk}
 use Rattle.reading.specs.Steps.{foundIn}
 use Rattle.sheet.specs.Verdict.{stateAfter, headFound, openingOf}
@@ -25,8 +25,9 @@ use Rattle.sheet.specs.laws.Opened.{OpenedOk}
 use Rattle.records.specs.declared.fields.HeadFields.the-variants.{Fields as Head}
 use Rattle.records.specs.declared.fields.LinkFields.the-variants.{Fields as Link}
 use Rattle.records.specs.declared.fields.LandingFields.the-variants.{Fields as LandingAt}
+use Rattle.records.specs.declared.fields.SenderFields.the-variants.{Fields as SenderAt}
 use Rattle.records.specs.declared.record.Record.{Record}
-use Rattle.records.specs.declared.record.Record.the-variants.{OneWay, BothWays, Landing}
+use Rattle.records.specs.declared.record.Record.the-variants.{OneWay, BothWays, Landing, Sender}
 use Rattle.reading.specs.declared.Reading.{Reading}
 use Rattle.sheet.specs.declared.opening.Opening.the-variants.{Head as Opened}
 use Rattle.record_tests.specs.declared.Found.the-variants.{Item, End}
@@ -65,6 +66,11 @@ module _ (s : List ℕ) (bytes : Bytes s) where
       ∙ ap (λ (l : List ℕ). terminal ∷ l)
       (field16 (drop 2 s) after-mark 1 node (long 3 (omega arith)) (read .node-is)
       ∙ ap (λ (l : List ℕ). bytes16 node ++ l) (drop-drop 3 2 s)))
+  read-bytes (Sender node) h read =
+      field16 s bytes 0 markSR (omega arith) (read .mark-is)
+      ∙ ap (λ (l : List ℕ). bytes16 markSR ++ l)
+      (field16 (drop 2 s) after-mark 0 node (long 2 (omega arith)) (read .node-is)
+      ∙ ap (λ (l : List ℕ). bytes16 node ++ l) (drop-drop 2 2 s))
 
   -- and so do the bytes of the end and of the head
   pub end-bytes : (k heard : ℕ) → EndOk k heard s → s ≡ endBytes
@@ -126,6 +132,10 @@ found-bytes r (Landing terminal node) rest ok small few =
     (passed (length ((terminal ∷ []) ++ bytes16 node ++ rest)) 3 _ _ (omega arith)
     ∙ ap (LandingAt terminal) (number16-bytes node rest (omega arith)))
     ∙ simp (lt-leb (r .k) terminal (ok .0), lt-leb (r .n) node (ok .1))
+found-bytes r (Sender node) rest ok small few =
+    passed (length (recordBytes (Sender node) ++ rest)) 2 _ _ (omega arith)
+    ∙ ap (senderFound (r .offset) (r .n)) (passed (length (bytes16 node ++ rest)) 2 _ _ (omega arith) ∙ ap SenderAt (number16-bytes node rest (omega arith)))
+    ∙ simp (lt-leb (r .n) node ok)
 
 -- the end is read from its bytes where every station has a landing
 pub found-end-bytes : (r : Reading) → r .heard .0 ≡ full (r .k) → foundIn r endBytes ≡ End
@@ -146,3 +156,4 @@ pub drop-record : (x : Record) (rest : List ℕ) → drop (size x) (recordBytes 
 drop-record (OneWay start end weight) rest = refl
 drop-record (BothWays start end weight) rest = refl
 drop-record (Landing terminal node) rest = refl
+drop-record (Sender node) rest = refl

@@ -4,7 +4,7 @@
 -- Assumes nothing.
 use Prim.Native.Nat.{ℕ, zero, suc, _+_, _-_, _/_, _%_, _^_, _≤_, _<_}
 use mathlib.Core.Path.{_≡_, refl, sym, ap, _∙_, subst}
-use mathlib.Core.Logic.{_≢_, _⊎_, inl, inr, _↔_}
+use mathlib.Core.Logic.{_≢_, _⊎_, _↔_}
 use mathlib.Core.Bool.{Bool, true, _||_, or-assoc}
 use native.Mathlib.Nat.{mod-eq-of-lt}
 use native.Mathlib.Omega.{arith}
@@ -119,14 +119,6 @@ union-assoc a b c = same-terminals (union (union a b) c) (union a (union b c)) �
 -- a station of the union is in one of the two sets
 pub union-has : (a b i : ℕ) → T (has (union a b) i) → T (has a i) ⊎ T (has b i)
 union-has a b i t = or-cases (has a i) (has b i) (subst T (has-union a b i) t)
-
--- the union of two parts is a part
-pub union-part : (a b w : ℕ) → Part a w → Part b w → Part (union a b) w
-union-part a b w p q = has-part (union a b) w (λ i t. go i (union-has a b i t))
-  where
-    go : (i : ℕ) → T (has a i) ⊎ T (has b i) → T (has w i)
-    go i (inl t) = part-has a w p i t
-    go i (inr t) = part-has b w q i t
 
 -- each set is a part of the union
 pub part-union-left : (a b : ℕ) → Part a (union a b)

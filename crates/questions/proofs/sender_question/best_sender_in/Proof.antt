@@ -1,4 +1,4 @@
--- `questions::sender_question::best_sender_in` meets its contract: the tests in their order, then the cheapest site, where its cell is finite.
+-- `questions::sender_question::best_sender_in` meets its contract: the tests in their order, then the cheapest sender, where its cell is finite.
 -- Assumes nothing.
 use Prim.Native.Nat.{ℕ, _*_, _^_, _≤_, _<_}
 use mathlib.Core.Path.{_≡_, refl, sym, _∙_, subst, transport⁻¹}
@@ -10,37 +10,37 @@ use borrow.Author.Needs.{needs}
 use borrow.Author.Tests.{not-true, not-false, leb-true, leb-false}
 use Rattle.limits.specs.Limits.{maxSubsets}
 use Rattle.answer.specs.Stated.{sender, noSender}
+use Rattle.landing_entries.specs.Entries.{isSenderAt}
 use Rattle.cost_table.specs.Cheapest.{columnIn}
-use Rattle.cost_table.specs.laws.Rows.{place-lt}
 use Rattle.questions.specs.Questions.{inRange}
-use Rattle.questions.specs.laws.Tested.{Range, ranged, few-sets, sender-head, sender-short, sender-set, sender-stands, sends-cheapest, sends-none}
+use Rattle.questions.specs.laws.Tested.{Range, ranged, few-sets, sender-head, sender-short, sender-few, sender-set, sender-stands, sends-cheapest, sends-none}
 use Rattle.questions.proofs.sender_question.best_sender_in.Statement.{statement}
 use Rattle.questions.proofs.sender_question.best_sender_in.Tie as tie
 
 -- what is known after each test that is passed
-in-range : (c : tie.Else1) → let a = c .before .before .before .args in inRange (a .n) (a .k) ≡ true
+in-range : (c : tie.Else1) → let a = c .before .before .before .before .args in inRange (a .n) (a .k) ≡ true
 in-range c = sym (c .before .in-range .ensures) ∙ not-false (c .before .in-range .result) (c .if1 .left)
 
-range : (c : tie.Else1) → let a = c .before .before .before .args in Range (a .n) (a .k)
+range : (c : tie.Else1) → let a = c .before .before .before .before .args in Range (a .n) (a .k)
 range c = ranged _ _ (in-range c)
 
-long : (c : tie.Else2) → let a = c .before .before .before .before .before .before .args in a .n * 2 ^ a .k ≤ length (now (a .cells))
+long : (c : tie.Else2) → let a = c .before .before .before .before .before .before .before .args in a .n * 2 ^ a .k ≤ length (now (a .cells))
 long c =
-    let a = c .before .before .before .before .before .before .args in
+    let a = c .before .before .before .before .before .before .before .args in
     subst (λ (x : ℕ). a .n * x ≤ length (now (a .cells))) (c .before .before .sets-for .ensures)
     (leb-true _ _ (sym (c .before .is-long .ensures) ∙ not-false (c .before .is-long .result) (c .if2 .left)))
 
-small : (c : tie.Else3) → let a = c .before .before .before .before .before .before .before .args in a .w < 2 ^ a .k
-small c = omega (arith, c .if3 .left, c .before .before .before .sets-for .ensures)
+small : (c : tie.Else4) → let a = c .before .before .before .before .before .before .before .before .before .args in a .w < 2 ^ a .k
+small c = omega (arith, c .if4 .left, c .before .before .before .before .sets-for .ensures)
 
 in-range-requires : tie.Need-in-range-requires
 in-range-requires c κs = search needs
 
 returns : tie.Need-returns
 returns c =
-    let a = c .before .before .before .args in
+    let a = c .before .before .before .before .args in
     transport⁻¹
-    (sender-head (now (a .cells)) (a .n) (a .k) (a .w) _
+    (sender-head (now (a .cells)) (now (a .landings)) (a .n) (a .k) (a .w) _
     (sym (c .before .in-range .ensures) ∙ not-true (c .before .in-range .result) (c .if1 .taken))) refl
 
 sets-for-requires : tie.Need-sets-for-requires
@@ -53,52 +53,55 @@ is-long-requires c κs =
 
 returns-2 : tie.Need-returns-2
 returns-2 c =
-    let a = c .before .before .before .before .before .before .args in
+    let a = c .before .before .before .before .before .before .before .args in
     transport⁻¹
-    (sender-short (now (a .cells)) (a .n) (a .k) (a .w) _ (in-range (c .before .before .before))
+    (sender-short (now (a .cells)) (now (a .landings)) (a .n) (a .k) (a .w) _ (in-range (c .before .before .before))
     (subst (λ (x : ℕ). length (now (a .cells)) < a .n * x) (c .before .before .sets-for .ensures)
     (leb-false _ _ (sym (c .before .is-long .ensures) ∙ not-true (c .before .is-long .result) (c .if2 .taken))))) refl
 
 returns-3 : tie.Need-returns-3
 returns-3 c =
-    let a = c .before .before .before .before .before .before .before .args in
-    transport⁻¹
-    (sender-set (now (a .cells)) (a .n) (a .k) (a .w) _ (in-range (c .before .before .before .before)) (long (c .before))
-    (omega (arith, c .if3 .taken, c .before .before .before .sets-for .ensures))) refl
-
-cast-cheapest-node : tie.Need-cast-cheapest-node
-cast-cheapest-node c = omega (arith, few-sets _ _ (range (c .before .before .before .before)), small c)
-
-cast-cheapest-node-2 : tie.Need-cast-cheapest-node-2
-cast-cheapest-node-2 c = omega (arith, range (c .before .before .before .before) .nodes .1)
-
-cast-cheapest-node-3 : tie.Need-cast-cheapest-node-3
-cast-cheapest-node-3 c = omega (arith, range (c .before .before .before .before) .terminals .1)
-
-cheapest-node-requires : tie.Need-cheapest-node-requires
-cheapest-node-requires c κs =
-    let r = range (c .before .before .before .before) in
-    (r .nodes .0, r .terminals .1, long (c .before), small c)
-
-cast-cell : tie.Need-cast-cell
-cast-cell c = omega (arith, range (c .before .before .before .before .before) .terminals .1)
-
-cell-requires : tie.Need-cell-requires
-cell-requires c κs =
     let a = c .before .before .before .before .before .before .before .before .args in
-    (range (c .before .before .before .before .before) .terminals .1, place-lt _ (a .n) (2 ^ a .k) (a .w) _ (c .cheapest-node .ensures .below) (small (c .before)) (long (c .before .before)))
+    transport⁻¹ (sender-few (now (a .cells)) (now (a .landings)) (a .n) (a .k) (a .w) _ (in-range (c .before .before .before .before)) (long (c .before)) (c .if3 .taken)) refl
 
 returns-4 : tie.Need-returns-4
 returns-4 c =
-    let a = c .before .before .before .before .before .before .before .before .before .before .args in
-    transport⁻¹ (sender-stands (now (a .cells)) (a .n) (a .k) (a .w) (sender _) (in-range (c .before .before .before .before .before .before .before)) (long (c .before .before .before .before)) (small (c .before .before .before)))
-    (sends-cheapest (columnIn (now (a .cells)) (a .k) (a .w)) (a .n) _ (c .before .before .cheapest-node .ensures) _ (c .before .cell .ensures) (omega (arith, c .if4 .taken)))
+    let a = c .before .before .before .before .before .before .before .before .before .args in
+    transport⁻¹
+    (sender-set (now (a .cells)) (now (a .landings)) (a .n) (a .k) (a .w) _ (in-range (c .before .before .before .before .before)) (long (c .before .before)) (c .before .if3 .left)
+    (omega (arith, c .if4 .taken, c .before .before .before .before .sets-for .ensures))) refl
+
+cast-t23 : tie.Need-cast-t23
+cast-t23 c = omega (arith, few-sets _ _ (range (c .before .before .before .before .before)), small c)
+
+cast-nodes : tie.Need-cast-nodes
+cast-nodes c = omega (arith, range (c .before .before .before .before .before) .nodes .1)
+
+cast-terminals : tie.Need-cast-terminals
+cast-terminals c = omega (arith, range (c .before .before .before .before .before) .terminals .1)
+
+cheapest-sender-requires : tie.Need-cheapest-sender-requires
+cheapest-sender-requires c κs =
+    let r = range (c .before .before .before .before .before) in
+    (r .nodes .0, r .terminals .1, long (c .before .before), c .before .if3 .left, small c)
+
+sender-cell-requires : tie.Need-sender-cell-requires
+sender-cell-requires c κs =
+    (range (c .before .before .before .before .before .before) .terminals .1, long (c .before .before .before), c .before .before .if3 .left, small (c .before), c .cheapest-sender .ensures .below)
 
 returns-5 : tie.Need-returns-5
 returns-5 c =
-    let a = c .before .before .before .before .before .before .before .before .before .before .args in
-    transport⁻¹ (sender-stands (now (a .cells)) (a .n) (a .k) (a .w) noSender (in-range (c .before .before .before .before .before .before .before)) (long (c .before .before .before .before)) (small (c .before .before .before)))
-    (sends-none (columnIn (now (a .cells)) (a .k) (a .w)) (a .n) _ (c .before .before .cheapest-node .ensures) _ (c .before .cell .ensures) (omega (arith, c .if4 .left)))
+    let a = c .before .before .before .before .before .before .before .before .before .before .before .before .args in
+    let stands = sender-stands (now (a .cells)) (now (a .landings)) (a .n) (a .k) (a .w) (sender _) (in-range (c .before .before .before .before .before .before .before .before)) (long (c .before .before .before .before .before)) (c .before .before .before .before .if3 .left) (small (c .before .before .before)) in
+    transport⁻¹ stands
+    (sends-cheapest (isSenderAt (now (a .landings))) (columnIn (now (a .cells)) (a .k) (a .w)) (a .n) _ (c .before .before .cheapest-sender .ensures) _ (c .before .sender-cell .ensures) (omega (arith, c .if5 .taken)))
+
+returns-6 : tie.Need-returns-6
+returns-6 c =
+    let a = c .before .before .before .before .before .before .before .before .before .before .before .before .args in
+    let stands = sender-stands (now (a .cells)) (now (a .landings)) (a .n) (a .k) (a .w) noSender (in-range (c .before .before .before .before .before .before .before .before)) (long (c .before .before .before .before .before)) (c .before .before .before .before .if3 .left) (small (c .before .before .before)) in
+    transport⁻¹ stands
+    (sends-none (isSenderAt (now (a .landings))) (columnIn (now (a .cells)) (a .k) (a .w)) (a .n) _ (c .before .before .cheapest-sender .ensures) _ (c .before .sender-cell .ensures) (omega (arith, c .if5 .left)))
 
 pub best-sender-in-spec : {M : Type 1} → statement M
 best-sender-in-spec =
@@ -110,11 +113,11 @@ best-sender-in-spec =
     is-long-requires
     returns-2
     returns-3
-    cast-cheapest-node
-    cast-cheapest-node-2
-    cast-cheapest-node-3
-    cheapest-node-requires
-    cast-cell
-    cell-requires
     returns-4
-    returns-5)
+    cast-t23
+    cast-nodes
+    cast-terminals
+    cheapest-sender-requires
+    sender-cell-requires
+    returns-5
+    returns-6)

@@ -57,6 +57,30 @@ landing-requires c κs = search needs
 returns-4 : tie.Need-returns-4
 returns-4 c = simp (le-ltb _ _ (c .before .before .before .before .before .before .if1 .left), ← c .before .before .before .before .before .u16-at .ensures, eq-eqb _ _ (c .before .before .if4 .taken), ne-eqb _ _ (c .before .before .before .before .if2 .left), ne-eqb _ _ (c .before .before .before .if3 .left)) (rw take-rest at (c .landing .ensures))
 
+sub-sender : tie.Need-sub-sender
+sub-sender c = search needs
+
+part-sender-start : tie.Need-part-sender-start
+part-sender-start c = search needs
+
+part-sender-end : tie.Need-part-sender-end
+part-sender-end c = search needs
+
+sender-requires : tie.Need-sender-requires
+sender-requires c κs = search needs
+
+returns-5 : tie.Need-returns-5
+returns-5 c =
+    simp (
+      le-ltb _ _ (c .before .before .before .before .before .before .before .if1 .left),
+      ← c .before .before .before .before .before .before .u16-at .ensures,
+      eq-eqb _ _ (c .before .before .if5 .taken),
+      ne-eqb _ _ (c .before .before .before .before .before .if2 .left),
+      ne-eqb _ _ (c .before .before .before .before .if3 .left),
+      ne-eqb _ _ (c .before .before .before .if4 .left),
+    )
+    (rw take-rest at (c .sender .ensures))
+
 sub-end : tie.Need-sub-end
 sub-end c = search needs
 
@@ -69,20 +93,30 @@ part-end-end c = search needs
 end-requires : tie.Need-end-requires
 end-requires c κs = search needs
 
-returns-5 : tie.Need-returns-5
-returns-5 c =
+returns-6 : tie.Need-returns-6
+returns-6 c =
     simp (
-      le-ltb _ _ (c .before .before .before .before .before .before .before .if1 .left),
-      ← c .before .before .before .before .before .before .u16-at .ensures,
-      eq-eqb _ _ (c .before .before .if5 .taken),
-      ne-eqb _ _ (c .before .before .before .before .before .if2 .left),
-      ne-eqb _ _ (c .before .before .before .before .if3 .left),
-      ne-eqb _ _ (c .before .before .before .if4 .left),
+      le-ltb _ _ (c .before .before .before .before .before .before .before .before .if1 .left),
+      ← c .before .before .before .before .before .before .before .u16-at .ensures,
+      eq-eqb _ _ (c .before .before .if6 .taken),
+      ne-eqb _ _ (c .before .before .before .before .before .before .if2 .left),
+      ne-eqb _ _ (c .before .before .before .before .before .if3 .left),
+      ne-eqb _ _ (c .before .before .before .before .if4 .left),
+      ne-eqb _ _ (c .before .before .before .if5 .left),
     )
     (rw take-rest at (c .end .ensures))
 
-returns-6 : tie.Need-returns-6
-returns-6 c = simp (le-ltb _ _ (c .before .before .before .before .before .if1 .left), ← c .before .before .before .before .u16-at .ensures, ne-eqb _ _ (c .before .before .before .if2 .left), ne-eqb _ _ (c .before .before .if3 .left), ne-eqb _ _ (c .before .if4 .left), ne-eqb _ _ (c .if5 .left))
+returns-7 : tie.Need-returns-7
+returns-7 c =
+    simp (
+      le-ltb _ _ (c .before .before .before .before .before .before .if1 .left),
+      ← c .before .before .before .before .before .u16-at .ensures,
+      ne-eqb _ _ (c .before .before .before .before .if2 .left),
+      ne-eqb _ _ (c .before .before .before .if3 .left),
+      ne-eqb _ _ (c .before .before .if4 .left),
+      ne-eqb _ _ (c .before .if5 .left),
+      ne-eqb _ _ (c .if6 .left),
+    )
 
 pub found-spec : {M : Type 1} → statement M
 found-spec =
@@ -105,9 +139,14 @@ found-spec =
     part-landing-end
     landing-requires
     returns-4
+    sub-sender
+    part-sender-start
+    part-sender-end
+    sender-requires
+    returns-5
     sub-end
     part-end-start
     part-end-end
     end-requires
-    returns-5
-    returns-6)
+    returns-6
+    returns-7)

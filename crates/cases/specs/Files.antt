@@ -1,5 +1,5 @@
--- The bytes of document 01's plan file for sheet A and of its cases K and L, which are settled in crate cases; further trees, and files for
--- each of the refusals 14 to 18, settled by computation: the answer and every table afterwards.
+-- The bytes of document 01's plan file for sheet A and of its cases K and L, which are settled in Worked.antt; further trees, and files for each of
+-- the refusals 14 to 18 and 20, settled by computation: the answer and every table afterwards.
 -- Assumes nothing.
 use Prim.Native.Nat.{ℕ}
 use mathlib.Core.Path.{_≡_, refl}
@@ -7,14 +7,14 @@ use mathlib.Core.Option.{none, some}
 use mathlib.Core.List.{List, [], _∷_}
 use Rattle.answer.specs.Stated.{plan, refused, ofSheet, ofTables, ofPlanFile}
 use Rattle.sheet.specs.Verdict.{verdict, readFor}
-use Rattle.sheet.specs.Worked.{sheetA, sheetD, sheetF}
+use Rattle.sheet.specs.Worked.{sheetA, sheetD, sheetF, sheetQ}
 use Rattle.lent_tables.specs.SheetTables.{sheetTables}
 use Rattle.record_tables.specs.Loaded.{loaded}
 use Rattle.planfile.specs.Format.{encoding}
 use Rattle.mission.specs.Runs.{ReaderTables, readerTables, run}
 use Rattle.file_tests.specs.FileFaults.{fileFault}
 use Rattle.plan_tests.specs.PlanFaults.{treeFault}
 use Rattle.plan_reader.specs.Reader.{readingOf}
 
 -- A's plan file in document 01's hexadecimal: 504E 0000 0000000A 0003 4C47 0000 4C47 0001 4C47 0002
 abbrev pub planA : List ℕ
@@ -156,6 +156,32 @@ dearer =
     0x4C ∷ 0x47 ∷ 0x00 ∷ 0x03 ∷
     []
 
+-- for sheet Q, whose only sender is site 1: leg 1 from root 1, which is accepted, and root 1 alone, which holds no landing of station 0: 18
+abbrev pub fromSender : List ℕ
+fromSender =
+    0x50 ∷ 0x4E ∷ 0x00 ∷ 0x01 ∷ 0x00 ∷ 0x00 ∷ 0x00 ∷ 0x07 ∷ 0x00 ∷ 0x01 ∷
+    0x4C ∷ 0x47 ∷ 0x00 ∷ 0x01 ∷
+    []
+
+abbrev pub senderAlone : List ℕ
+senderAlone = 0x50 ∷ 0x4E ∷ 0x00 ∷ 0x01 ∷ 0x00 ∷ 0x00 ∷ 0x00 ∷ 0x00 ∷ 0x00 ∷ 0x00 ∷ []
+
+-- 20: leg 0 from root 0, which is no sender; the same with a false total; and root 0 alone, which holds no landing of station 1
+abbrev pub notFromSender : List ℕ
+notFromSender =
+    0x50 ∷ 0x4E ∷ 0x00 ∷ 0x00 ∷ 0x00 ∷ 0x00 ∷ 0x00 ∷ 0x07 ∷ 0x00 ∷ 0x01 ∷
+    0x4C ∷ 0x47 ∷ 0x00 ∷ 0x00 ∷
+    []
+
+abbrev pub notFromSenderFalseTotal : List ℕ
+notFromSenderFalseTotal =
+    0x50 ∷ 0x4E ∷ 0x00 ∷ 0x00 ∷ 0x00 ∷ 0x00 ∷ 0x00 ∷ 0x08 ∷ 0x00 ∷ 0x01 ∷
+    0x4C ∷ 0x47 ∷ 0x00 ∷ 0x00 ∷
+    []
+
+abbrev pub notFromSenderMissed : List ℕ
+notFromSenderMissed = 0x50 ∷ 0x4E ∷ 0x00 ∷ 0x00 ∷ 0x00 ∷ 0x00 ∷ 0x00 ∷ 0x00 ∷ 0x00 ∷ 0x00 ∷ []
+
 -- the tables as they are lent: room for six legs and five sites
 abbrev pub lent : ReaderTables
 lent =
@@ -168,16 +194,22 @@ lentShort =
     readerTables (sheetTables (7 ∷ 7 ∷ 7 ∷ 7 ∷ 7 ∷ 7 ∷ []) (7 ∷ 7 ∷ 7 ∷ 7 ∷ 7 ∷ 7 ∷ []) (7 ∷ 7 ∷ 7 ∷ 7 ∷ 7 ∷ 7 ∷ []) (7 ∷ 7 ∷ 7 ∷ []))
     (9 ∷ 9 ∷ 9 ∷ 9 ∷ 9 ∷ [])
 
--- the tables after sheet D: its two legs, the stations of its two sites, and these marks
+-- the tables after sheet D: its two legs, the stations of its two sites, both flagged as senders, and these marks
 abbrev pub filledWithD : List ℕ → ReaderTables
 filledWithD marks =
-    readerTables (sheetTables (0 ∷ 1 ∷ 7 ∷ 7 ∷ 7 ∷ 7 ∷ []) (1 ∷ 0 ∷ 7 ∷ 7 ∷ 7 ∷ 7 ∷ []) (7 ∷ 7 ∷ 7 ∷ 7 ∷ 7 ∷ 7 ∷ []) (1 ∷ 2 ∷ 7 ∷ 7 ∷ 7 ∷ []))
+    readerTables (sheetTables (0 ∷ 1 ∷ 7 ∷ 7 ∷ 7 ∷ 7 ∷ []) (1 ∷ 0 ∷ 7 ∷ 7 ∷ 7 ∷ 7 ∷ []) (7 ∷ 7 ∷ 7 ∷ 7 ∷ 7 ∷ 7 ∷ []) (1_025 ∷ 1_026 ∷ 7 ∷ 7 ∷ 7 ∷ []))
     marks
 
--- the tables afterwards: A's five legs, the stations of its four sites, and these marks
+-- the same after sheet Q, of whose sites only site 1 is flagged
+abbrev pub filledWithQ : List ℕ → ReaderTables
+filledWithQ marks =
+    readerTables (sheetTables (0 ∷ 1 ∷ 7 ∷ 7 ∷ 7 ∷ 7 ∷ []) (1 ∷ 0 ∷ 7 ∷ 7 ∷ 7 ∷ 7 ∷ []) (7 ∷ 7 ∷ 7 ∷ 7 ∷ 7 ∷ 7 ∷ []) (1 ∷ 1_026 ∷ 7 ∷ 7 ∷ 7 ∷ []))
+    marks
+
+-- the tables afterwards: A's five legs, the stations of its four sites, all flagged as senders, and these marks
 abbrev pub filledWith : List ℕ → ReaderTables
 filledWith marks =
-    readerTables (sheetTables (0 ∷ 1 ∷ 1 ∷ 0 ∷ 0 ∷ 7 ∷ []) (1 ∷ 2 ∷ 3 ∷ 2 ∷ 3 ∷ 7 ∷ []) (4 ∷ 3 ∷ 3 ∷ 5 ∷ 6 ∷ 7 ∷ []) (4 ∷ 0 ∷ 1 ∷ 2 ∷ 7 ∷ []))
+    readerTables (sheetTables (0 ∷ 1 ∷ 1 ∷ 0 ∷ 0 ∷ 7 ∷ []) (1 ∷ 2 ∷ 3 ∷ 2 ∷ 3 ∷ 7 ∷ []) (4 ∷ 3 ∷ 3 ∷ 5 ∷ 6 ∷ 7 ∷ []) (1_028 ∷ 1_024 ∷ 1_025 ∷ 1_026 ∷ 7 ∷ []))
     marks
 
 -- which files are accepted, and which are refused as what
@@ -202,6 +234,14 @@ pub files-settled :
     × (readingOf sheetD onlyIntoTheRoot lent ≡ run (refused ofPlanFile 17 0) (filledWithD (1 ∷ 0 ∷ 9 ∷ 9 ∷ 9 ∷ [])))
     × (readingOf sheetA notReached lent ≡ run (refused ofPlanFile 17 0) (filledWith (1 ∷ 0 ∷ 0 ∷ 0 ∷ 9 ∷ [])))
     × (readingOf sheetA missed lent ≡ run (refused ofPlanFile 18 0) (filledWith (1 ∷ 1 ∷ 1 ∷ 0 ∷ 9 ∷ [])))
+    × (readingOf sheetD notFromSender lent ≡ run (plan 0 7 1) (filledWithD (1 ∷ 1 ∷ 9 ∷ 9 ∷ 9 ∷ [])))
+    × (readingOf sheetQ fromSender lent ≡ run (plan 1 7 1) (filledWithQ (1 ∷ 1 ∷ 9 ∷ 9 ∷ 9 ∷ [])))
+    × (readingOf sheetQ senderAlone lent ≡ run (refused ofPlanFile 18 0) (filledWithQ (0 ∷ 1 ∷ 9 ∷ 9 ∷ 9 ∷ [])))
+    × (readingOf sheetQ notFromSender lent ≡ run (refused ofPlanFile 20 0) (filledWithQ (1 ∷ 1 ∷ 9 ∷ 9 ∷ 9 ∷ [])))
+    × (readingOf sheetQ notFromSenderFalseTotal lent ≡ run (refused ofPlanFile 20 0) (filledWithQ (1 ∷ 1 ∷ 9 ∷ 9 ∷ 9 ∷ [])))
+    × (readingOf sheetQ notFromSenderMissed lent ≡ run (refused ofPlanFile 20 0) (filledWithQ (1 ∷ 0 ∷ 9 ∷ 9 ∷ 9 ∷ [])))
+    × (readingOf sheetQ intoTheRoot lent ≡ run (refused ofPlanFile 17 0) (filledWithQ (1 ∷ 1 ∷ 9 ∷ 9 ∷ 9 ∷ [])))
+    × (readingOf sheetQ unknownRoot lent ≡ run (refused ofPlanFile 16 0) (filledWithQ (9 ∷ 9 ∷ 9 ∷ 9 ∷ 9 ∷ [])))
 unfolding verdict readFor loaded fileFault treeFault
 files-settled =
-    (refl, refl, refl, refl, refl, refl, refl, refl, refl, refl, refl, refl, refl, refl, refl, refl, refl, refl, refl, refl)
+    (refl, refl, refl, refl, refl, refl, refl, refl, refl, refl, refl, refl, refl, refl, refl, refl, refl, refl, refl, refl, refl, refl, refl, refl, refl, refl, refl, refl)

@@ -1,0 +1,4 @@
+-- what a reader must believe
+pub mod Entries
+-- laws
+pub mod laws
