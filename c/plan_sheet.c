@@ -7,7 +7,7 @@
  *     ./plan_sheet <samples/A.sheet
  *
  * The exit status is 0 for a plan, 1 for a refusal, and 2 where the library has another interface or the input is longer than any sheet
- * of `LK` and `ST` records without a repeat.
+ * of `LK`, `ST` and `SR` records without a repeated `ST` or `SR`.
  */
 #include "uldhvamm.h"
 
@@ -17,8 +17,8 @@ enum {
     SITES = ULDHVAMM_MAX_SITES,
     STATIONS = ULDHVAMM_MAX_STATIONS,
     LEGS = ULDHVAMM_MAX_LEGS,
-    /* HD, every leg as an LK, every station's landing at every site, ED */
-    SHEET_BYTES = 5 + 10 * LEGS + 5 * SITES * STATIONS + 2,
+    /* HD, every leg as an LK, every station's landing at every site, every site as a sender, ED */
+    SHEET_BYTES = 5 + 10 * LEGS + 5 * SITES * STATIONS + 4 * SITES + 2,
     PLAN_BYTES = 10 + 4 * (SITES - 1)
 };
 

@@ -12,12 +12,18 @@
  *
  * What is returned
  *   0 for a plan, an accepted plan file, a cell, a best sender and ULDHVAMM_NO_SENDER; else the number of the refusal,
- *   ULDHVAMM_SHORT_SHEET to ULDHVAMM_FALSE_TOTAL below.
+ *   ULDHVAMM_SHORT_SHEET to ULDHVAMM_NOT_A_SENDER below.
  *
  * What is written to answer
  *   for a plan or an accepted plan file: root (the sending site), total (cents), number of legs; for a cell: the cell; for a best
  *   sender: its site, or ULDHVAMM_NO_SENDER; for a refusal: its place.
  *   As many of these as answer has entries for are written, from its first entry on; its other entries are untouched.
+ *
+ * Landing entries
+ *   Entry v of landings is the set of the stations that are heard at site v, a number in which station i is worth 2^i, and
+ *   ULDHVAMM_SENDER_FLAG more where site v is a sender, a site from which a plan may be sent. A sheet marks its senders by records SR; one
+ *   without SR makes every site a sender. A best sender is asked for with landing entries that the caller lends: an entry is a sender's
+ *   where its bit ULDHVAMM_SENDER_FLAG is set, whatever its other bits are.
  *
  * Interface
  *   The parameters, widths and values below are those of interface ULDHVAMM_INTERFACE. A library may be older or newer than the header: a
@@ -38,14 +44,18 @@ extern "C" {
 #endif
 
 /* The interface that this header declares. */
-#define ULDHVAMM_INTERFACE 1
+#define ULDHVAMM_INTERFACE 2
 
-/* The limits of a sheet, a cell for which there is no tree ("none"), and the answer that no site is a best sender. */
+/*
+ * The limits of a sheet, a cell for which there is no tree ("none"), the answer that no site is a best sender, and what is added to the
+ * landing entry of a sender.
+ */
 #define ULDHVAMM_MAX_SITES 1024
 #define ULDHVAMM_MAX_STATIONS 10
 #define ULDHVAMM_MAX_LEGS 8192
 #define ULDHVAMM_NO_COST UINT32_C(4294967295)
 #define ULDHVAMM_NO_SENDER UINT64_MAX
+#define ULDHVAMM_SENDER_FLAG 1024
 
 /*
  * The refusals. The place of 1 to 10 counts in the sheet, that of 15 and 16 in the plan file; that of the others, and of all that the
@@ -70,21 +80,24 @@ enum {
     ULDHVAMM_UNKNOWN_NUMBER = 16,
     ULDHVAMM_NO_TREE = 17,
     ULDHVAMM_STATION_MISSED = 18,
-    ULDHVAMM_FALSE_TOTAL = 19
+    ULDHVAMM_FALSE_TOTAL = 19,
+    ULDHVAMM_NOT_A_SENDER = 20
 };
 
 /* The interface of the library: ULDHVAMM_INTERFACE where this header is the library's. Every library has this function. */
 uint32_t uldhvamm_interface(void);
 
 /*
- * The engine: plans a sheet of n sites, k stations and m legs, and writes the plan file to the plan buffer.
+ * The engine: plans a sheet of n sites, k stations and m legs, and writes the plan file to the plan buffer. The root of the plan is a
+ * sender; ULDHVAMM_NO_PLAN says that from no sender legs lead to every station.
  *
  * Long enough are: starts, ends and prices with m entries, landings with n, cells with n times 2^k, marks with n. Longer ones are as
  * good. A plan file has 10 bytes and 4 for each leg, so 10 + 4 * (n - 1) bytes are always enough.
  *
- * After a plan, the first entries of the tables hold the legs in order (start, end, price), each site's set of stations, the costs,
- * and 1 in each mark; the plan buffer begins with the plan file. ULDHVAMM_NO_PLAN and ULDHVAMM_SHORT_BUFFER leave the tables as after
- * a plan, and the plan buffer untouched. The refusals 1 to 11 touch nothing but answer. Later entries and bytes are untouched.
+ * After a plan, the first entries of the tables hold the legs in order (start, end, price), each site's landing entry, the costs of all
+ * sites, senders or not, and 1 in each mark; the plan buffer begins with the plan file. ULDHVAMM_NO_PLAN and ULDHVAMM_SHORT_BUFFER leave
+ * the tables as after a plan, and the plan buffer untouched. The refusals 1 to 11 touch nothing but answer. Later entries and bytes are
+ * untouched.
  */
 uint32_t uldhvamm_plan(
     const uint8_t *sheet, size_t sheet_length,
@@ -98,8 +111,9 @@ uint32_t uldhvamm_plan(
     uint64_t *answer, size_t answer_length);
 
 /*
- * The plan reader: accepts a plan file, whoever wrote it, exactly when it is the file of a directed tree of the sheet's legs that
- * holds a landing of every station, with its true total.
+ * The plan reader: accepts a plan file, whoever wrote it, exactly when it is the file of a directed tree of the sheet's legs whose root is
+ * a sender and that holds a landing of every station, with its true total. ULDHVAMM_NOT_A_SENDER is tested after ULDHVAMM_NO_TREE and
+ * before ULDHVAMM_STATION_MISSED.
  *
  * The tables are as for the engine, without cells. From ULDHVAMM_CUT_PLAN on and on acceptance the leg and landing tables are filled;
  * from ULDHVAMM_NO_TREE on and on acceptance the first n marks are 1 for the sites that the listed legs reach from the root, else 0.
@@ -122,9 +136,9 @@ uint32_t uldhvamm_read_plan(
  * ULDHVAMM_NO_COST where there is none. That it is so rests on the caller: every table is read as it stands.
  *
  * Refused are, in this order, each at place 0: ULDHVAMM_BAD_HEAD, where n is not 1 to ULDHVAMM_MAX_SITES or k is not 1 to
- * ULDHVAMM_MAX_STATIONS; ULDHVAMM_SHORT_TABLES, where cells has fewer than n times 2^k entries (more are as good);
- * ULDHVAMM_NO_SUCH_SITE, where a site is asked about that is n or more; ULDHVAMM_NO_SUCH_STATION, where the subset is 2^k or more.
- * Nothing but answer is written.
+ * ULDHVAMM_MAX_STATIONS; ULDHVAMM_SHORT_TABLES, where cells has fewer than n times 2^k entries or, for a best sender, landings has fewer
+ * than n (more are as good); ULDHVAMM_NO_SUCH_SITE, where a site is asked about that is n or more; ULDHVAMM_NO_SUCH_STATION, where the
+ * subset is 2^k or more. Nothing but answer is written.
  */
 
 /* The cell of a site and a subset, as it stands in the table. ULDHVAMM_NO_COST is an answer too, and no refusal. */
@@ -135,11 +149,13 @@ uint32_t uldhvamm_cell(
     uint64_t *answer, size_t answer_length);
 
 /*
- * The best sender of a subset: a site whose cell of that subset is least and is not ULDHVAMM_NO_COST, or ULDHVAMM_NO_SENDER where
- * every cell of that subset is ULDHVAMM_NO_COST. Which of several equally cheap sites is given is left free.
+ * The best sender of a subset: of the senders by landings one whose cell of that subset is least and is not ULDHVAMM_NO_COST, or
+ * ULDHVAMM_NO_SENDER where every sender's cell of that subset is ULDHVAMM_NO_COST or there is no sender. Which of several equally cheap
+ * senders is given is left free. landings is as uldhvamm_plan leaves it beside the cells; that it is so rests on the caller too.
  */
 uint32_t uldhvamm_best_sender(
     const uint32_t *cells, size_t cells_length,
+    const uint16_t *landings, size_t landings_length,
     uint32_t sites, uint32_t stations,
     uint32_t subset,
     uint64_t *answer, size_t answer_length);

@@ -8,9 +8,9 @@
 #include <stdio.h>
 #include <string.h>
 
-enum { HEAD = 5, LINK = 10, LANDING = 5, END = 2, MOST_LEGS = 8200 };
+enum { HEAD = 5, LINK = 10, LANDING = 5, SENDER = 4, END = 2, MOST_LEGS = 8200 };
 
-static uint8_t sheet[HEAD + LINK * MOST_LEGS + LANDING * 16 + END + 1];
+static uint8_t sheet[HEAD + LINK * MOST_LEGS + LANDING * 16 + SENDER + END + 1];
 static size_t size;
 
 static uint16_t starts[MOST_LEGS], ends[MOST_LEGS], landings[2048];
@@ -57,13 +57,25 @@ static void landing(uint32_t station, uint32_t site)
     put_number(site);
 }
 
-/* Two sites, a leg between them at 7 cents, and a station at each. */
-static void two_sites(void)
+static void sender(uint32_t site)
+{
+    put("SR", 2);
+    put_number(site);
+}
+
+/* Two sites, a leg between them at 7 cents, and a station at each, without the end. */
+static void begin_two_sites(void)
 {
     head(2, 2);
     link_record(0, 1, 7);
     landing(0, 0);
     landing(1, 1);
+}
+
+/* The whole sheet of two sites. */
+static void two_sites(void)
+{
+    begin_two_sites();
     put("ED", 2);
 }
 
@@ -74,12 +86,18 @@ static uint32_t planned(size_t mark_count, size_t byte_count)
                          plan, byte_count, answer, 3);
 }
 
+/* Reads a plan file against the sheet. */
+static uint32_t read_file(const char *file, size_t length)
+{
+    return uldhvamm_read_plan(sheet, size, (const uint8_t *)file, length, starts, MOST_LEGS, ends, MOST_LEGS, prices, MOST_LEGS, landings,
+                              2048, marks, 2048, answer, 3);
+}
+
 /* Reads a plan file against the sheet of two sites. */
 static uint32_t read_as(const char *file, size_t length)
 {
     two_sites();
-    return uldhvamm_read_plan(sheet, size, (const uint8_t *)file, length, starts, MOST_LEGS, ends, MOST_LEGS, prices, MOST_LEGS, landings,
-                              2048, marks, 2048, answer, 3);
+    return read_file(file, length);
 }
 
 /* Prints the constant's name where it has the number that the library gave. */
@@ -172,11 +190,21 @@ static void show_planning(void)
     put("ED", 2);
     SHOW(ULDHVAMM_NO_PLAN, planned(2048, 64));
     SHOW(ULDHVAMM_NO_COST, cells[3]);
-    uldhvamm_best_sender(cells, 8, 2, 2, 3, answer, 3);
+    uldhvamm_best_sender(cells, 8, landings, 2, 2, 2, 3, answer, 3);
     SHOW(ULDHVAMM_NO_SENDER, answer[0]);
 }
 
-/* Plan files of the sheet of two sites: the true one is root 0, total 7, leg 0. */
+/* The landing entry of a site that hears no station, on a sheet where every site may send. */
+static void show_flag(void)
+{
+    head(2, 1);
+    landing(0, 0);
+    put("ED", 2);
+    planned(2048, 64);
+    SHOW(ULDHVAMM_SENDER_FLAG, landings[1]);
+}
+
+/* Plan files of the sheet of two sites: the true one is root 0, total 7, leg 0. The last is the true one where site 1 alone may send. */
 static void show_files(void)
 {
     SHOW(ULDHVAMM_CUT_PLAN, read_as("PN\0\0\0\0\0\7\0\1LG\0", 13));
@@ -185,6 +213,10 @@ static void show_files(void)
     SHOW(ULDHVAMM_NO_TREE, read_as("PN\0\1\0\0\0\7\0\1LG\0\0", 14));
     SHOW(ULDHVAMM_STATION_MISSED, read_as("PN\0\0\0\0\0\0\0\0", 10));
     SHOW(ULDHVAMM_FALSE_TOTAL, read_as("PN\0\0\0\0\0\10\0\1LG\0\0", 14));
+    begin_two_sites();
+    sender(1);
+    put("ED", 2);
+    SHOW(ULDHVAMM_NOT_A_SENDER, read_file("PN\0\0\0\0\0\7\0\1LG\0\0", 14));
 }
 
 int main(void)
@@ -194,6 +226,7 @@ int main(void)
     show_records();
     show_sheets();
     show_planning();
+    show_flag();
     show_files();
     return failures != 0;
 }

@@ -1,15 +1,16 @@
 /*
  * The header as C: plans sheet A of document 01, asks about its cost table and a smaller one, reads the plan file back, changes its
- * total, and plans an empty sheet.
+ * total and sets it back, plans an empty sheet, and plans and reads with a licence for site 1 alone.
  * tests/outside compiles it, links it with libuldhvamm.a, and compares what it prints.
  */
 #include "uldhvamm.h"
 
 #include <stdio.h>
+#include <string.h>
 
 enum { SITES = 4, STATIONS = 3, LEGS = 5 };
 
-static const uint8_t sheet[] = {
+static const uint8_t sheet_a[] = {
     'H', 'D', 0, 4, 3,
     'L', 'K', 0, 0, 0, 1, 0, 0, 0, 4,
     'L', 'K', 0, 1, 0, 2, 0, 0, 0, 3,
@@ -22,25 +23,33 @@ static const uint8_t sheet[] = {
     'E', 'D'
 };
 
-/* The cost table of two sites and one station that no site can serve. */
+/* The records that stand in the place of the last one where site 1 alone may send. */
+static const uint8_t licence[] = {'S', 'R', 0, 1, 'E', 'D'};
+
+/* The cost table of two sites and one station that no site can serve; both sites are senders. */
 static const uint32_t unserved[] = {0, ULDHVAMM_NO_COST, 0, ULDHVAMM_NO_COST};
+static const uint16_t both_senders[] = {ULDHVAMM_SENDER_FLAG, ULDHVAMM_SENDER_FLAG};
+
+/* The sheet that is planned and read, and its length. */
+static uint8_t sheet[sizeof sheet_a + sizeof licence];
+static size_t sheet_length;
 
 static uint16_t starts[LEGS], ends[LEGS], landings[SITES];
 static uint32_t prices[LEGS], cells[SITES << STATIONS];
 static uint8_t marks[SITES], plan[10 + 4 * (SITES - 1)];
 static uint64_t answer[3];
 
-/* Plans the first so many bytes of the sheet. */
-static uint32_t plan_sheet(size_t length)
+/* Plans the sheet. */
+static uint32_t plan_sheet(void)
 {
-    return uldhvamm_plan(sheet, length, starts, LEGS, ends, LEGS, prices, LEGS, landings, SITES, cells, SITES << STATIONS, marks, SITES,
-                         plan, sizeof plan, answer, 3);
+    return uldhvamm_plan(sheet, sheet_length, starts, LEGS, ends, LEGS, prices, LEGS, landings, SITES, cells, SITES << STATIONS, marks,
+                         SITES, plan, sizeof plan, answer, 3);
 }
 
-/* Reads the plan buffer as a plan file of the whole sheet. */
+/* Reads the plan buffer as a plan file of the sheet. */
 static uint32_t read_plan(void)
 {
-    return uldhvamm_read_plan(sheet, sizeof sheet, plan, sizeof plan, starts, LEGS, ends, LEGS, prices, LEGS, landings, SITES, marks,
+    return uldhvamm_read_plan(sheet, sheet_length, plan, sizeof plan, starts, LEGS, ends, LEGS, prices, LEGS, landings, SITES, marks,
                               SITES, answer, 3);
 }
 
@@ -72,10 +81,11 @@ static void ask_for_cell(const char *name, size_t length, uint32_t sites, uint32
     print_enquiry(name, uldhvamm_cell(cells, length, sites, STATIONS, site, subset, answer, 3), ULDHVAMM_NO_COST);
 }
 
-/* Asks for a best sender in the same way. */
-static void ask_for_sender(const char *name, size_t length, uint32_t stations, uint32_t subset)
+/* Asks for a best sender in the same way, with the first so many landing entries. */
+static void ask_for_sender(const char *name, size_t length, size_t entries, uint32_t stations, uint32_t subset)
 {
-    print_enquiry(name, uldhvamm_best_sender(cells, length, SITES, stations, subset, answer, 3), ULDHVAMM_NO_SENDER);
+    uint32_t number = uldhvamm_best_sender(cells, length, landings, entries, SITES, stations, subset, answer, 3);
+    print_enquiry(name, number, ULDHVAMM_NO_SENDER);
 }
 
 /* Asks about the table that the planning has left, and about the smaller one. Subset 3 is stations 0 and 1, subset 7 all three. */
@@ -88,12 +98,29 @@ static void enquire(void)
     ask_for_cell("cell, table one entry short", length - 1, SITES, 1, 3);
     ask_for_cell("cell of site 4", length, SITES, 4, 3);
     ask_for_cell("cell of subset 8", length, SITES, 1, 8);
-    ask_for_sender("sender of subset 3", length, STATIONS, 3);
-    ask_for_sender("sender of subset 7", length, STATIONS, 7);
-    ask_for_sender("sender, 11 stations", length, 11, 3);
-    ask_for_sender("sender, table one entry short", length - 1, STATIONS, 3);
-    ask_for_sender("sender of subset 8", length, STATIONS, 8);
-    print_enquiry("sender of an unserved station", uldhvamm_best_sender(unserved, 4, 2, 1, 1, answer, 3), ULDHVAMM_NO_SENDER);
+    ask_for_sender("sender of subset 3", length, SITES, STATIONS, 3);
+    ask_for_sender("sender of subset 7", length, SITES, STATIONS, 7);
+    ask_for_sender("sender, 11 stations", length, SITES, 11, 3);
+    ask_for_sender("sender, table one entry short", length - 1, SITES, STATIONS, 3);
+    ask_for_sender("sender, landings one entry short", length, SITES - 1, STATIONS, 3);
+    ask_for_sender("sender of subset 8", length, SITES, STATIONS, 8);
+    print_enquiry("sender of an unserved station", uldhvamm_best_sender(unserved, 4, both_senders, 2, 2, 1, 1, answer, 3),
+                  ULDHVAMM_NO_SENDER);
+}
+
+/*
+ * Site 1 alone may send: there is no plan, site 1 is the best sender of stations 0 and 1, and A's plan file, which the buffer still holds,
+ * is refused: its root is site 0.
+ */
+static void try_licence(void)
+{
+    memcpy(sheet + sizeof sheet_a - 2, licence, sizeof licence);
+    sheet_length = sizeof sheet_a - 2 + sizeof licence;
+    print_answer("plan with one sender", plan_sheet());
+    printf("landing entries: %u %u\n", (unsigned)landings[0], (unsigned)landings[1]);
+    ask_for_sender("sender of subset 3", SITES << STATIONS, SITES, STATIONS, 3);
+    ask_for_sender("sender of subset 7", SITES << STATIONS, SITES, STATIONS, 7);
+    print_answer("read with one sender", read_plan());
 }
 
 /* Prints the legs in the plan buffer. */
@@ -108,13 +135,18 @@ static void print_legs(void)
 
 int main(void)
 {
-    print_answer("plan", plan_sheet(sizeof sheet));
+    memcpy(sheet, sheet_a, sizeof sheet_a);
+    sheet_length = sizeof sheet_a;
+    print_answer("plan", plan_sheet());
     print_legs();
     printf("none: %s\n", cells[15] == ULDHVAMM_NO_COST ? "as named" : "another number");
     enquire();
     print_answer("read", read_plan());
     plan[7] = 11;
     printf("false total: %s\n", read_plan() == ULDHVAMM_FALSE_TOTAL ? "as named" : "another number");
-    print_answer("empty", plan_sheet(0));
+    plan[7] = 10;
+    sheet_length = 0;
+    print_answer("empty", plan_sheet());
+    try_licence();
     return 0;
 }

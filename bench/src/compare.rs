@@ -116,12 +116,22 @@ pub fn check_enquiry(
         return Ok(());
     }
     Err(format!(
-        "{question:?}, {} sites, {} stations, {} cells {:?}\nreturned {number} with {after:?} for {answer:?}, due is {due:?}",
+        "{question:?}, {} sites, {} stations, {} cells {:?}, {} landing entries {:?}\nreturned {number} with {after:?} for {answer:?}, \
+         due is {due:?}",
         table.sites,
         table.stations,
         table.cells.len(),
         &table.cells[..table.cells.len().min(64)],
+        table.landings.len(),
+        &table.landings[..table.landings.len().min(64)],
     ))
+}
+
+/// Whether some site of a finished table, a sender or not, has a tree to every station.
+pub fn some_site_reaches_all(table: CostTable) -> bool {
+    let rows = table.cells.chunks_exact(1 << table.stations);
+    let full = rows.take(table.sites as usize).filter_map(|row| row.last());
+    full.copied().any(|cell| cell != reference::NO_COST)
 }
 
 /// A call's sheet, and its file if it has one, in hexadecimal.

@@ -3,20 +3,54 @@
 //! The tables, the plan buffer and `answer` are filled with garbage, have the exact lengths, longer ones or shorter ones, and are
 //! compared whole. Each test counts the answers and fails where one that it aims at did not occur.
 
-use uldhvamm::{Lengths, Tables};
-use uldhvamm_bench::compare::{both, Call, Run};
+use uldhvamm::{CostTable, Lengths, Tables};
+use uldhvamm_bench::compare::{both, some_site_reaches_all, Call, Run};
 use uldhvamm_bench::reference;
 use uldhvamm_bench::sheets::{damaged, small_sheet, varied_file, wide_sheet};
 use uldhvamm_bench::sheets::{leg_records, PlanFile, Random, Sheet};
 
-/// How often each answer occurred; entry 0 is for plans and acceptances.
+/// How often each answer occurred; entry 0 is for plans and acceptances. Of the answers 12, those where some site that is no sender
+/// reaches every station.
 struct Counts {
-    answers: [usize; 20],
+    answers: [usize; 21],
+    unlicensed: usize,
 }
 
 impl Counts {
     fn new() -> Counts {
-        Counts { answers: [0; 20] }
+        Counts {
+            answers: [0; 21],
+            unlicensed: 0,
+        }
+    }
+
+    /// Counts what was answered to a sheet.
+    fn add(&mut self, sheet: &[u8], run: &Run) {
+        self.answers[run.number as usize] += 1;
+        if run.number == 12 {
+            let sheet = reference::read_sheet(sheet).expect("a sheet without a plan is good");
+            let table = CostTable {
+                cells: &run.tables.cells,
+                landings: &run.tables.landings,
+                sites: sheet.sites as u32,
+                stations: sheet.stations as u32,
+            };
+            self.unlicensed += usize::from(some_site_reaches_all(table));
+        }
+    }
+
+    /// Fails where one of the two kinds of 12 occurred less than `least` times: no site reaches every station, or only others than
+    /// senders do.
+    fn require_both_kinds(&self, name: &str, least: usize) {
+        let unreached = self.answers[12] - self.unlicensed;
+        println!(
+            "{name}: 12 for want of legs {unreached} times, for want of a licence {} times",
+            self.unlicensed
+        );
+        assert!(
+            unreached >= least && self.unlicensed >= least,
+            "{name}: kinds of 12"
+        );
     }
 
     /// Prints the counts, and fails where an answer of `aims` occurred less than `least` times.
@@ -44,7 +78,7 @@ fn check(
     let entries = random.below(6);
     let answer: Vec<u64> = (0..entries).map(|_| random.bits()).collect();
     let run = both(call, sheet, &tables, &answer).unwrap_or_else(|words| panic!("{words}"));
-    counts.answers[run.number as usize] += 1;
+    counts.add(sheet, &run);
     run
 }
 
@@ -120,6 +154,7 @@ fn sound_sheets_are_planned_alike() {
         check(random, &mut counts, &Call::Plan, &sheet.bytes(), lengths);
     }
     counts.require("sound sheets planned", &[0, 11, 12, 13], 500);
+    counts.require_both_kinds("sound sheets planned", 500);
 }
 
 #[test]
@@ -135,6 +170,7 @@ fn damaged_sheets_are_planned_alike() {
     }
     let aims = [0, 1, 2, 3, 4, 5, 6, 7, 9, 10, 11, 12];
     counts.require("damaged sheets planned", &aims, 100);
+    counts.require_both_kinds("damaged sheets planned", 100);
 }
 
 #[test]
@@ -176,8 +212,32 @@ fn plan_files_are_read_alike() {
             check(random, &mut counts, &Call::Read(file), &bytes, lengths);
         }
     }
-    let aims = [0, 11, 14, 15, 16, 17, 18, 19];
+    let aims = [0, 11, 14, 15, 16, 17, 18, 19, 20];
     counts.require("plan files read", &aims, 500);
+}
+
+/// The plan of a sheet without its `SR` records, read against the sheet: only a root that is no sender is a fault.
+#[test]
+fn plans_from_any_site_are_read_alike() {
+    let mut counts = Counts::new();
+    let mut plans = Counts::new();
+    for seed in 320_000..326_000 {
+        let random = &mut Random::new(seed);
+        let sheet = any_sheet(random);
+        let Some(plan) = plan_of(random, &mut plans, &sheet.without_senders()) else {
+            continue;
+        };
+        let (call, bytes) = (Call::Read(plan.bytes()), sheet.bytes());
+        let run = check(random, &mut counts, &call, &bytes, needed(&sheet));
+        let good = reference::read_sheet(&bytes).expect("the sheet is good");
+        let due = match good.senders[usize::from(plan.root)] {
+            true => 0,
+            false => 20,
+        };
+        assert_eq!(run.number, due, "{sheet:?}");
+    }
+    counts.require("plans from any site read", &[0, 20], 500);
+    assert_eq!(plans.unlicensed, 0, "every site is a sender");
 }
 
 #[test]
@@ -192,7 +252,9 @@ fn damaged_sheets_are_read_alike() {
         let lengths = varied(random, lengths);
         check(random, &mut counts, &Call::Read(file), &bytes, lengths);
     }
-    let aims = [0, 1, 2, 3, 4, 5, 6, 7, 9, 10, 11, 14, 15, 16, 17, 18, 19];
+    let aims = [
+        0, 1, 2, 3, 4, 5, 6, 7, 9, 10, 11, 14, 15, 16, 17, 18, 19, 20,
+    ];
     counts.require("files read against damaged sheets", &aims, 20);
 }
 
@@ -215,6 +277,8 @@ fn the_limit_of_legs_is_kept_alike() {
         (crowded(8_191).both(0, 1, 5), 8),
         (crowded(8_192).both(0, 1, 5), 8),
         (crowded(8_192).landing(0, 1), 0),
+        (crowded(8_192).sender(2), 0),
+        (crowded(8_192).sender(3), 4),
         (crowded(8_192).link(0, 1, 0), 7),
         (crowded(8_192).link(1, 1, 0), 6),
         (crowded(8_192).link(3, 3, 0), 4),

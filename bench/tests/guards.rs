@@ -2,7 +2,7 @@
 
 use std::hint::black_box;
 use uldhvamm::{enquire, plan_lent, read_plan_lent};
-use uldhvamm::{CostTable, Lengths, Lent, Tables};
+use uldhvamm::{CostTable, Lengths, Lent, Tables, SENDER_FLAG};
 use uldhvamm_bench::compare::table_difference;
 use uldhvamm_bench::reference::due;
 use uldhvamm_bench::sheets::{question, random_table, small_sheet, PlanFile, Random, Sheet};
@@ -94,7 +94,8 @@ fn nothing_outside_is_written() {
     );
 }
 
-/// The guards of the cells are 0, less than most cells: a best sender that is found outside is not the one that is due.
+/// The guards of the cells are 0, less than most cells, and those of the landing entries are flagged: a best sender that is found outside
+/// is not the one that is due.
 #[test]
 fn the_enquirer_keeps_to_its_slices() {
     let (mut answers, mut refusals) = (0, 0);
@@ -104,9 +105,12 @@ fn the_enquirer_keeps_to_its_slices() {
         let question = question(random, &table);
         let due = due(table.lend(), question);
         let mut cells = [&[0; GUARD], &table.cells[..], &[0; GUARD]].concat();
-        let before = black_box(cells.clone());
+        let flags = [SENDER_FLAG; GUARD];
+        let mut landings = [&flags, &table.landings[..], &flags].concat();
+        let before = black_box((cells.clone(), landings.clone()));
         let lent = CostTable {
             cells: inner(&mut cells),
+            landings: inner(&mut landings),
             ..table.lend()
         };
         let entries = random.below(4);
@@ -118,7 +122,10 @@ fn the_enquirer_keeps_to_its_slices() {
             answer[2] = 5;
         }
         assert_eq!(answer, [5; 7]);
-        assert!(black_box(cells) == before, "cells, seed {seed}");
+        assert!(
+            black_box((cells, landings)) == before,
+            "tables, seed {seed}"
+        );
         match number {
             0 => answers += 1,
             _ => refusals += 1,

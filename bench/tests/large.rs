@@ -2,7 +2,7 @@
 
 use uldhvamm::{Lengths, Tables};
 use uldhvamm_bench::compare::{both, Call, Run};
-use uldhvamm_bench::sheets::{bad_reading, chain, filled_sheet, grid, random_sheet};
+use uldhvamm_bench::sheets::{bad_reading, chain, filled_sheet, grid, licensed, random_sheet};
 use uldhvamm_bench::sheets::{Chain, Order, PlanFile, Random, Sheet};
 
 /// Runs both with tables of garbage, a few entries longer than needed, and fails where they differ.
@@ -61,8 +61,35 @@ fn a_chain_is_planned_alike() {
 #[test]
 fn a_sheet_at_every_limit_is_planned_alike() {
     let sheet = filled_sheet(5);
-    assert_eq!(sheet.bytes().len(), 133_127);
+    assert_eq!(sheet.bytes().len(), 137_223);
     assert_eq!(plan_and_read(&sheet), 0);
+}
+
+/// Few sites may send, so that the plan is dearer than it is without licences; the plan without licences is refused with 20.
+#[test]
+fn licensed_sheets_are_planned_alike() {
+    let open = random_sheet(1, 1024, 10, 8192, 1000);
+    let sheet = licensed(7, open.clone(), 3);
+    let (free, bound) = (check(&Call::Plan, &open), check(&Call::Plan, &sheet));
+    assert_eq!((free.number, bound.number), (0, 0));
+    assert!(free.answer[1] < bound.answer[1]);
+    assert!(plan_and_read(&sheet) > 9);
+    let file = PlanFile::from_bytes(&free.tables.plan).bytes();
+    assert_eq!(check(&Call::Read(file), &sheet).number, 20);
+}
+
+/// From the first site of a chain alone legs lead to every station: with its licence there is the plan, with that of the last site alone
+/// there is none.
+#[test]
+fn the_licence_of_a_chain_is_kept_alike() {
+    let sheet = whole_chain(Order::Falling);
+    assert_eq!(plan_and_read(&sheet.clone().sender(1023).sender(0)), 1023);
+    let run = check(&Call::Plan, &sheet.clone().sender(1023));
+    assert_eq!(run.number, 12);
+    let file = PlanFile::from_bytes(&check(&Call::Plan, &sheet).tables.plan).bytes();
+    let read = check(&Call::Read(file), &sheet.sender(1023));
+    assert_eq!(read.number, 20);
+    assert!(read.tables.marks[..1024].iter().all(|&mark| mark == 1));
 }
 
 #[test]

@@ -5,7 +5,7 @@ use uldhvamm::enquire;
 use uldhvamm::{CostTable, Lengths, Question, Tables};
 use uldhvamm_bench::compare::{call_library, call_reference, difference, Call, Run};
 use uldhvamm_bench::reference::due;
-use uldhvamm_bench::sheets::{chain, random_sheet, Chain, Order, Random, Sheet};
+use uldhvamm_bench::sheets::{chain, licensed, random_sheet, Chain, Order, Random, Sheet};
 
 const STACK: usize = 32 * 1024;
 
@@ -70,7 +70,9 @@ fn a_chain_needs_little_stack() {
 
 #[test]
 fn a_random_sheet_needs_little_stack() {
-    assert!(plan_and_read(&random_sheet(1, 1024, 10, 8192, 1000)) > 9);
+    let sheet = random_sheet(1, 1024, 10, 8192, 1000);
+    assert!(plan_and_read(&sheet) > 9);
+    assert!(plan_and_read(&licensed(2, sheet, 100)) > 9);
 }
 
 #[test]
@@ -83,9 +85,11 @@ fn stations_at_one_site_need_little_stack() {
 
 #[test]
 fn the_enquirer_needs_little_stack() {
-    let planned = check(&Call::Plan, &random_sheet(1, 1024, 10, 8192, 1000));
+    let sheet = licensed(2, random_sheet(1, 1024, 10, 8192, 1000), 100);
+    let planned = check(&Call::Plan, &sheet);
     let table = CostTable {
         cells: &planned.tables.cells,
+        landings: &planned.tables.landings,
         sites: 1024,
         stations: 10,
     };

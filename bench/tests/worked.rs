@@ -1,4 +1,4 @@
-//! The worked sheets A to L of document 01, with their answers written out, for the library and the reference.
+//! The worked sheets A to L of document 01, and A with senders, with their answers written out, for the library and the reference.
 
 use uldhvamm::answer_to_question;
 use uldhvamm::{Answer, CostTable, Enquiry, Lengths, Question, Tables};
@@ -67,10 +67,10 @@ fn planned(sheet: &[u8]) -> (Answer, Vec<u16>) {
     }
 }
 
-/// The answer to a file against sheet A.
-fn read_against_a(file: &[u8]) -> Answer {
+/// The answer to a file against a sheet of A's size.
+fn read_against(sheet: &Sheet, file: &[u8]) -> Answer {
     let call = Call::Read(file.to_vec());
-    answer(call, &sheet_a().bytes(), Lengths::needed(4, 3, 5)).0
+    answer(call, &sheet.bytes(), Lengths::needed(4, 3, 5)).0
 }
 
 fn plan(root: u64, total: u64, legs: &[u16]) -> (Answer, Vec<u16>) {
@@ -99,7 +99,7 @@ fn a_is_planned() {
     assert_eq!(tables.starts, [0, 1, 1, 0, 0]);
     assert_eq!(tables.ends, [1, 2, 3, 2, 3]);
     assert_eq!(tables.prices, [4, 3, 3, 5, 6]);
-    assert_eq!(tables.landings, [4, 0, 1, 2]);
+    assert_eq!(tables.landings, [1028, 1024, 1025, 1026]);
     assert_eq!(tables.marks, [1, 1, 1, 1]);
     let none = u32::MAX;
     let expected = [
@@ -135,11 +135,30 @@ fn f_to_j_are_answered() {
 #[test]
 fn files_of_a_are_read() {
     let file = from_hexadecimal(FILE_OF_A);
-    assert_eq!(read_against_a(&file), plan(0, 10, &[0, 1, 2]).0);
-    let k = "504E00000000000A00044C4700004C4700014C4700024C470002";
-    assert_eq!(read_against_a(&from_hexadecimal(k)), refused(17, 0));
-    let l = "504E00000000000B00034C4700004C4700014C470002";
-    assert_eq!(read_against_a(&from_hexadecimal(l)), refused(19, 0));
+    assert_eq!(read_against(&sheet_a(), &file), plan(0, 10, &[0, 1, 2]).0);
+    let k = from_hexadecimal("504E00000000000A00044C4700004C4700014C4700024C470002");
+    assert_eq!(read_against(&sheet_a(), &k), refused(17, 0));
+    let l = from_hexadecimal("504E00000000000B00034C4700004C4700014C470002");
+    assert_eq!(read_against(&sheet_a(), &l), refused(19, 0));
+    // From a root that is no sender: no tree is 17 before 20, a false total and missed stations come after it.
+    let sheet = sheet_a().sender(1);
+    assert_eq!(read_against(&sheet, &file), refused(20, 0));
+    assert_eq!(read_against(&sheet, &k), refused(17, 0));
+    assert_eq!(read_against(&sheet, &l), refused(20, 0));
+    assert_eq!(read_against(&sheet, b"PN\0\0\0\0\0\0\0\0"), refused(20, 0));
+}
+
+/// Sites 0 and 1 may send: the plan is that of A. Site 1 alone does not reach station 2, so that there is none.
+#[test]
+fn a_with_senders_is_answered() {
+    let both = sheet_a().sender(0).sender(1).sender(1).sender(0);
+    assert_eq!(planned(&both.bytes()), plan(0, 10, &[0, 1, 2]));
+    let (_, tables) = answer(Call::Plan, &both.bytes(), Lengths::needed(4, 3, 5));
+    assert_eq!(tables.landings, [1028, 1024, 1, 2]);
+    let one = sheet_a().sender(1);
+    assert_eq!(planned(&one.bytes()).0, refused(12, 0));
+    let (_, tables) = answer(Call::Plan, &one.bytes(), Lengths::needed(4, 3, 5));
+    assert_eq!(tables.landings, [4, 1024, 1, 2]);
 }
 
 /// The answers of the enquirer about the table that a sheet leaves: the best sender of each subset.
@@ -148,6 +167,7 @@ fn senders(sheet: &Sheet) -> Vec<Enquiry> {
     let (_, tables) = answer(Call::Plan, &sheet.bytes(), Lengths::needed(4, 3, 5));
     let table = CostTable {
         cells: &tables.cells,
+        landings: &tables.landings,
         sites: n,
         stations: k,
     };
@@ -172,6 +192,7 @@ fn cells_of_a_are_given() {
     let (_, tables) = answer(Call::Plan, &sheet_a().bytes(), Lengths::needed(4, 3, 5));
     let table = CostTable {
         cells: &tables.cells,
+        landings: &tables.landings,
         sites: 4,
         stations: 3,
     };
@@ -196,4 +217,8 @@ fn best_senders_are_given() {
     check_senders(&sheet_d(7), &[&[0, 1], &[0], &[1], &[0, 1]]);
     let e = senders(&Sheet::new(2, 2).landing(0, 0).landing(1, 1));
     assert_eq!(e[3], Enquiry::NoSender);
+    let of_one = senders(&sheet_a().sender(1));
+    let site = Enquiry::Sender { site: 1 };
+    assert_eq!(of_one[..4], [site; 4]);
+    assert_eq!(of_one[4..], [Enquiry::NoSender; 4]);
 }

@@ -1,4 +1,4 @@
-"""Plans by trial, after document 01 and without the library: every sublist of the legs, or every set of sites grown leg by leg."""
+"""Plans by trial, after documents 01 and 02 and without the library: every sublist of the legs, or every set of sites grown leg by leg."""
 
 from __future__ import annotations
 
@@ -6,7 +6,7 @@ from dataclasses import dataclass
 from itertools import product
 from typing import Iterator, Optional, Sequence
 
-from uldhvamm import BothWays, Landing, Row
+from uldhvamm import BothWays, Landing, Row, Sender
 
 # A cost table: entry v, then entry W, is the least total at site v for the set W of stations, or None.
 Cells = list[list[Optional[int]]]
@@ -14,26 +14,30 @@ Cells = list[list[Optional[int]]]
 
 @dataclass(frozen=True)
 class Network:
-    """The sites, stations and legs (start, end, price) of a sheet, and each site's set of stations as a number."""
+    """The sites, stations and legs (start, end, price) of a sheet, each site's set of stations as a number, and the sites that may send."""
 
     sites: int
     stations: int
     legs: tuple[tuple[int, int, int], ...]
     heard: tuple[int, ...]
+    senders: frozenset[int]
 
 
 def network_of(sites: int, stations: int, rows: Sequence[Row]) -> Network:
     """The network of a good sheet's rows."""
     legs: list[tuple[int, int, int]] = []
     heard = [0] * sites
+    senders: set[int] = set()
     for row in rows:
         if isinstance(row, Landing):
             heard[row.site] |= 1 << row.station
+        elif isinstance(row, Sender):
+            senders.add(row.site)
         else:
             legs.append((row.start, row.end, row.price))
         if isinstance(row, BothWays):
             legs.append((row.end, row.start, row.price))
-    return Network(sites, stations, tuple(legs), tuple(heard))
+    return Network(sites, stations, tuple(legs), tuple(heard), frozenset(senders or range(sites)))
 
 
 def total_of(network: Network, listed: Sequence[int]) -> int:
@@ -64,6 +68,8 @@ def refusal_of(network: Network, root: int, total: int, listed: Sequence[int]) -
     """The number of the refusal that is due to a plan file of legs on the sheet, or 0."""
     if not is_tree(network, root, listed):
         return 17
+    if root not in network.senders:
+        return 20
     if stations_of(network, root, listed) != (1 << network.stations) - 1:
         return 18
     return 0 if total == total_of(network, listed) else 19
@@ -84,14 +90,19 @@ def cells_by_growth(network: Network) -> Cells:
 
 
 def planned(network: Network, cells: Cells) -> Optional[tuple[int, int, list[int]]]:
-    """Root, total and legs of the plan by the stated rule, from a finished cost table; None where there is no plan."""
+    """Root, total and legs of the plan by the stated rule, from a finished cost table; None where there is no plan from a sender."""
     full = (1 << network.stations) - 1
-    finite = [(row[full], site) for site, row in enumerate(cells) if row[full] is not None]
+    finite = [(row[full], site) for site, row in enumerate(cells) if site in network.senders and row[full] is not None]
     if not finite:
         return None
     total, root = min(finite)
     assert total is not None
     return root, total, list(_followed(network, cells, root, full))
+
+
+def some_site_reaches_all(cells: Cells) -> bool:
+    """Whether some site, a sender or not, has a tree to every station."""
+    return any(row[-1] is not None for row in cells)
 
 
 def _empty_row(network: Network) -> list[Optional[int]]:

@@ -1,4 +1,6 @@
-"""Random small sheets: the library's plans against those by trial, and plan files against document 01's rules for the plan reader."""
+"""Random small sheets: the library's plans against those by trial, and plan files against the rules of documents 01 and 02 for the
+plan reader.
+"""
 
 from __future__ import annotations
 
@@ -6,8 +8,8 @@ import random
 import unittest
 from typing import Callable, NamedTuple
 
-from brute import Cells, Network, cells_by_growth, cells_by_sublists, network_of, planned, refusal_of, total_of
-from uldhvamm import Accepted, BothWays, Landing, Leg, Plan, Refusal, Row, build_plan, build_sheet, load
+from brute import Cells, Network, cells_by_growth, cells_by_sublists, network_of, planned, refusal_of, some_site_reaches_all, total_of
+from uldhvamm import Accepted, BothWays, Landing, Leg, Plan, Refusal, Row, Sender, build_plan, build_sheet, load
 
 
 class Case(NamedTuple):
@@ -18,7 +20,10 @@ class Case(NamedTuple):
 
 
 def small_case(chance: random.Random, most_sites: int, most_links: int, most_stations: int) -> Case:
-    """A random good sheet. Prices are low, so that many totals are equal; some legs are parallel; records are in any order."""
+    """A random good sheet. Prices are low, so that many totals are equal; some legs are parallel; records are in any order.
+
+    A third of the sheets let every site send, the others one or more, some of them by two records.
+    """
     sites = chance.randint(1, most_sites)
     stations = chance.randint(1, most_stations)
     highest = chance.choice([1, 3, 9, 1000000])
@@ -29,6 +34,7 @@ def small_case(chance: random.Random, most_sites: int, most_links: int, most_sta
         rows.append(chance.choice(kinds)(start, end, chance.randint(1, highest)))
     for station in range(stations):
         rows += [Landing(station, chance.randrange(sites)) for _ in range(chance.choice([1, 1, 2]))]
+    rows += [Sender(chance.randrange(sites)) for _ in range(chance.choice([0, 0, 1, 1, 2, sites]))]
     chance.shuffle(rows)
     return Case(build_sheet(sites, stations, rows), network_of(sites, stations, rows))
 
@@ -47,14 +53,18 @@ class Planning(unittest.TestCase):
     def setUp(self) -> None:
         self.library = load()
         self.plans = 0
-        self.refusals = 0
+        self.unreached = 0
+        self.unlicensed = 0
 
     def compare(self, case: Case, cells: Cells) -> None:
         """Tests the answer to a sheet against the plan from a cost table."""
         expected = planned(case.network, cells)
         answer = self.library.plan(case.sheet)
         if expected is None:
-            self.refusals += 1
+            if some_site_reaches_all(cells):
+                self.unlicensed += 1
+            else:
+                self.unreached += 1
             self.assertEqual(answer, Refusal(12, 0), case)
             return
         self.plans += 1
@@ -70,14 +80,14 @@ class Planning(unittest.TestCase):
         for _ in range(4000):
             case = tiny_case(chance)
             self.compare(case, cells_by_sublists(case.network))
-        self.assertGreater(min(self.plans, self.refusals), 200)
+        self.assertGreater(min(self.plans, self.unreached, self.unlicensed), 200)
 
     def test_every_set_of_sites(self) -> None:
         chance = random.Random(2)
         for _ in range(1000):
             case = small_case(chance, most_sites=8, most_links=20, most_stations=5)
             self.compare(case, cells_by_growth(case.network))
-        self.assertGreater(min(self.plans, self.refusals), 100)
+        self.assertGreater(min(self.plans, self.unreached, self.unlicensed), 50)
 
     def test_both_trials_agree(self) -> None:
         chance = random.Random(3)
@@ -128,7 +138,7 @@ class Reading(unittest.TestCase):
 
     def test_lists_of_legs_are_read_by_the_rules(self) -> None:
         chance = random.Random(5)
-        seen = {0: 0, 17: 0, 18: 0, 19: 0}
+        seen = {0: 0, 17: 0, 18: 0, 19: 0, 20: 0}
         for _ in range(3000):
             case = tiny_case(chance)
             legs = chance.sample(range(len(case.network.legs)), chance.randint(0, min(4, len(case.network.legs))))

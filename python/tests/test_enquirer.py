@@ -5,32 +5,38 @@ Which of several equally cheap sites is a best sender is left free: any of them 
 
 from __future__ import annotations
 
+import ctypes
 import random
 import unittest
 from concurrent.futures import ThreadPoolExecutor
-from typing import Optional, Union
+from typing import Collection, Optional, Union
 
-from brute import cells_by_growth
+from brute import cells_by_growth, some_site_reaches_all
 from test_brute import small_case
-from uldhvamm import BestSender, Cell, CostTable, Family, Landing, Leg, Plan, Refusal, build_sheet, load
+from uldhvamm import BestSender, Cell, CostTable, Family, Landing, Leg, Plan, Refusal, Sender, build_sheet, load
 from worked import SHEETS
 
 NONE = 4294967295
 
-# The cells of sheets A, D and E, one row a site; None is "none".
+# The cells of sheets A, D and E, one row a site; None is "none". The legs of A.
 ROWS_OF_A: list[list[Optional[int]]] = [
     [0, 5, 6, 10, 0, 5, 6, 10],
     [0, 3, 3, 6, None, None, None, None],
     [0, 0, None, None, None, None, None, None],
     [0, None, 0, None, None, None, None, None],
 ]
+LEGS_OF_A = [Leg(0, 1, 4), Leg(1, 2, 3), Leg(1, 3, 3), Leg(0, 2, 5), Leg(0, 3, 6)]
 ROWS_OF_D: list[list[Optional[int]]] = [[0, 0, 7, 7], [0, 7, 0, 7]]
 ROWS_OF_E: list[list[Optional[int]]] = [[0, 0, None, None], [0, None, 0, None]]
 
 
-def best_of(rows: list[list[Optional[int]]], subset: int) -> list[Optional[int]]:
-    """Every site whose cell of a subset is least and finite, or None alone."""
-    costs = [(cost, site) for site, row in enumerate(rows) if (cost := row[subset]) is not None]
+# The landing entry of a site that may send and hears no station.
+SENDER = 1024
+
+
+def best_of(rows: list[list[Optional[int]]], senders: Collection[int], subset: int) -> list[Optional[int]]:
+    """Every sender whose cell of a subset is least among the senders and finite, or None alone."""
+    costs = [(cost, site) for site, row in enumerate(rows) if site in senders and (cost := row[subset]) is not None]
     return [site for cost, site in costs if cost == min(costs)[0]] or [None]
 
 
@@ -51,13 +57,13 @@ class Enquirer(unittest.TestCase):
         assert isinstance(answer, BestSender), answer
         return answer.site
 
-    def compare(self, table: CostTable, rows: list[list[Optional[int]]]) -> int:
+    def compare(self, table: CostTable, rows: list[list[Optional[int]]], senders: Collection[int]) -> int:
         """Tests every cell and every best sender of a table. Gives the number of subsets with several best senders."""
         ties = 0
         for site, row in enumerate(rows):
             self.assertEqual([self.library.cell(table, site, subset) for subset in range(len(row))], [Cell(cost) for cost in row])
         for subset in range(len(rows[0])):
-            best = best_of(rows, subset)
+            best = best_of(rows, senders, subset)
             ties += len(best) > 1
             self.assertIn(self.site_of(self.library.best_sender(table, subset)), best)
         return ties
@@ -68,7 +74,7 @@ class Enquirer(unittest.TestCase):
                 table = self.finished(SHEETS[name])
                 self.assertEqual((table.sites, table.stations), (len(rows), len(rows[0]).bit_length() - 1))
                 self.assertEqual(table.cells, tuple(NONE if cost is None else cost for row in rows for cost in row))
-                self.assertEqual(self.compare(table, rows), ties)
+                self.assertEqual(self.compare(table, rows, range(len(rows))), ties)
 
     def test_the_best_sender_of_all_stations_has_the_total_of_the_plan(self) -> None:
         for name in ["A", "B", "C", "D", "G"]:
@@ -92,6 +98,15 @@ class Enquirer(unittest.TestCase):
         self.assertEqual([self.library.cell(table, site, 0) for site in range(4)], [Cell(0)] * 4)
         self.assertIn(self.site_of(self.library.best_sender(table, 0)), range(4))
 
+    def test_sheets_with_senders(self) -> None:
+        for senders, entries in [([1], (4, 1024, 1, 2)), ([3, 2], (4, 0, 1025, 1026)), ([1, 0, 1], (1028, 1024, 1, 2))]:
+            with self.subTest(senders=senders):
+                rows = [*LEGS_OF_A, Landing(0, 2), Landing(1, 3), Landing(2, 0), *map(Sender, senders)]
+                table = self.finished(build_sheet(4, 3, rows))
+                self.assertEqual(table.landings, entries)
+                self.compare(table, ROWS_OF_A, senders)
+        self.assertEqual(self.finished(SHEETS["A"]).landings, (1028, 1024, 1025, 1026))
+
     def test_refused_sheets_have_no_table(self) -> None:
         for name, refusal in {"F": Refusal(7, 5), "H": Refusal(7, 5), "I": Refusal(1, 0), "J": Refusal(9, 12)}.items():
             self.assertEqual(self.library.cost_table(SHEETS[name]), refusal)
@@ -102,13 +117,16 @@ class Enquirer(unittest.TestCase):
 
     def test_random_sheets(self) -> None:
         chance = random.Random(7)
-        ties = unserved = 0
+        ties = unreached = unlicensed = 0
         for _ in range(500):
             case = small_case(chance, most_sites=7, most_links=16, most_stations=4)
             rows = cells_by_growth(case.network)
-            ties += self.compare(self.finished(case.sheet), rows)
-            unserved += best_of(rows, len(rows[0]) - 1) == [None]
-        self.assertGreater(min(ties, unserved), 50)
+            ties += self.compare(self.finished(case.sheet), rows, case.network.senders)
+            if best_of(rows, case.network.senders, len(rows[0]) - 1) == [None]:
+                reached = some_site_reaches_all(rows)
+                unlicensed += reached
+                unreached += not reached
+        self.assertGreater(min(ties, unreached, unlicensed), 20)
 
     def test_any_cells(self) -> None:
         rows: list[list[Optional[int]]] = [
@@ -119,26 +137,47 @@ class Enquirer(unittest.TestCase):
         ]
         cells = [NONE if cost is None else cost for row in rows for cost in row]
         for more in [[], [0], [0] * 9]:
-            self.assertEqual(self.compare(CostTable(4, 2, cells + more), rows), 2)
-        self.assertEqual(self.site_of(self.library.best_sender(CostTable(3, 2, cells), 3)), 1)
+            table = CostTable(4, 2, cells + more, [SENDER] * 4 + more)
+            self.assertEqual(self.compare(table, rows, range(4)), 2)
+        self.assertEqual(self.site_of(self.library.best_sender(CostTable(3, 2, cells, [SENDER] * 3), 3)), 1)
+
+    def test_any_landing_entries(self) -> None:
+        rows: list[list[Optional[int]]] = [[0, 7], [0, 8], [0, 9]]
+        for entries, senders in [
+            ([0, 1024, 1024], [1, 2]),
+            ([1023, 2047, 0], [1]),
+            ([63488, 64511, 65535], [2]),
+            ([3072, 0, 33792], [0, 2]),
+            ([0, 0, 0], []),
+            ([0, 0, 0, 1024], []),
+        ]:
+            with self.subTest(entries=entries):
+                table = CostTable(3, 1, [0, 7, 0, 8, 0, 9], entries)
+                self.assertEqual(table.landings, tuple(entries))
+                self.compare(table, rows, senders)
 
     def test_bad_heads_are_refused(self) -> None:
         for sites, stations in [(0, 1), (1025, 1), (NONE, 1), (65537, 1), (1, 0), (1, 11), (1, 257), (1, NONE), (0, 0)]:
             for cells in [[], [0] * 4096]:
-                table = CostTable(sites, stations, cells)
+                table = CostTable(sites, stations, cells, [])
                 self.refused(self.library.cell(table, NONE, NONE), 3, "bad head", Family.SHEET)
                 self.refused(self.library.best_sender(table, 0), 3, "bad head", Family.SHEET)
 
     def test_short_tables_are_refused(self) -> None:
         for length in [0, 1, 31]:
-            table = CostTable(4, 3, [0] * length)
+            table = CostTable(4, 3, [0] * length, [SENDER] * 4)
             for subset in [0, 8]:
                 self.refused(self.library.cell(table, 4, subset), 11, "short tables", Family.TABLES)
                 self.refused(self.library.cell(table, 0, subset), 11, "short tables", Family.TABLES)
                 self.refused(self.library.best_sender(table, subset), 11, "short tables", Family.TABLES)
+        for length in [0, 1, 3]:
+            table = CostTable(4, 3, [0] * 32, [SENDER] * length)
+            self.assertEqual(self.library.cell(table, 3, 7), Cell(0))
+            for subset in [0, 8]:
+                self.refused(self.library.best_sender(table, subset), 11, "short tables", Family.TABLES)
 
     def test_sites_and_subsets_past_the_end_are_refused(self) -> None:
-        table = CostTable(4, 3, [0] * 32)
+        table = CostTable(4, 3, [0] * 32, [SENDER] * 4)
         for site in [4, 65536, NONE]:
             self.refused(self.library.cell(table, site, 0), 4, "no such site", Family.SHEET)
             self.refused(self.library.cell(table, site, 8), 4, "no such site", Family.SHEET)
@@ -153,14 +192,14 @@ class Enquirer(unittest.TestCase):
         self.assertEqual((answer.word, answer.family), (word, family))
 
     def test_numbers_that_do_not_fit_are_errors(self) -> None:
-        table = CostTable(1, 1, [0, 0])
+        table = CostTable(1, 1, [0, 0], [SENDER])
         faulty = [
-            lambda: CostTable(NONE + 1, 1, [0, 0]),
-            lambda: CostTable(-1, 1, [0, 0]),
-            lambda: CostTable(1, NONE + 1, [0, 0]),
-            lambda: CostTable(1, -1, [0, 0]),
-            lambda: CostTable(1, 1, [0, NONE + 1]),
-            lambda: CostTable(1, 1, [-1, 0]),
+            lambda: CostTable(NONE + 1, 1, [0, 0], [SENDER]),
+            lambda: CostTable(-1, 1, [0, 0], [SENDER]),
+            lambda: CostTable(1, NONE + 1, [0, 0], [SENDER]),
+            lambda: CostTable(1, -1, [0, 0], [SENDER]),
+            lambda: CostTable(1, 1, [0, NONE + 1], [SENDER]),
+            lambda: CostTable(1, 1, [-1, 0], [SENDER]),
             lambda: self.library.cell(table, NONE + 1, 0),
             lambda: self.library.cell(table, -1, 0),
             lambda: self.library.cell(table, 0, NONE + 1),
@@ -171,11 +210,21 @@ class Enquirer(unittest.TestCase):
         for place, ask in enumerate(faulty):
             with self.subTest(place=place), self.assertRaisesRegex(ValueError, "does not fit 4 bytes"):
                 ask()
+        for entry in [-1, 65536]:
+            with self.assertRaisesRegex(ValueError, "landing entry .* does not fit 2 bytes"):
+                CostTable(1, 1, [0, 0], [entry])
 
     def test_what_is_no_number_or_table_is_an_error(self) -> None:
-        table = CostTable(1, 1, [0, 0])
+        table = CostTable(1, 1, [0, 0], [SENDER])
         with self.assertRaises(TypeError):
-            CostTable(1, 1, [0.5, 0])  # type: ignore[list-item]
+            CostTable(1, 1, [0.5, 0], [SENDER])  # type: ignore[list-item]
+        with self.assertRaises(TypeError):
+            CostTable(1, 1, [0, 0], [0.5])  # type: ignore[list-item]
+        costs, entries = (ctypes.c_uint32 * 2)(), (ctypes.c_uint16 * 1)()
+        with self.assertRaisesRegex(TypeError, "the cells are to be a ctypes array of c_uint32"):
+            CostTable.of_arrays(1, 1, entries, entries)
+        with self.assertRaisesRegex(TypeError, "the landing entries are to be a ctypes array of c_uint16"):
+            CostTable.of_arrays(1, 1, costs, [SENDER])
         with self.assertRaises(TypeError):
             self.library.cell(table, 0.5, 0)  # type: ignore[arg-type]
         with self.assertRaisesRegex(TypeError, "a CostTable is needed, not list"):

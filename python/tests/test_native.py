@@ -27,8 +27,8 @@ ENTRIES = {
     "answer": ctypes.c_uint64,
 }
 
-# What sheets A and E leave in the tables.
-LEGS_OF_A = {"starts": [0, 1, 1, 0, 0], "ends": [1, 2, 3, 2, 3], "prices": [4, 3, 3, 5, 6], "landings": [4, 0, 1, 2]}
+# What sheets A and E leave in the tables, and A with the record `SR 1` before its end.
+LEGS_OF_A = {"starts": [0, 1, 1, 0, 0], "ends": [1, 2, 3, 2, 3], "prices": [4, 3, 3, 5, 6], "landings": [1028, 1024, 1025, 1026]}
 CELLS_OF_A = [
     *[0, 5, 6, 10, 0, 5, 6, 10],
     *[0, 3, 3, 6, NONE, NONE, NONE, NONE],
@@ -36,7 +36,9 @@ CELLS_OF_A = [
     *[0, NONE, 0, NONE, NONE, NONE, NONE, NONE],
 ]
 TABLES_OF_A: dict[str, list[int]] = {**LEGS_OF_A, "cells": CELLS_OF_A, "marks": [1, 1, 1, 1]}
-TABLES_OF_E = {"landings": [1, 2], "cells": [0, 0, NONE, NONE, 0, NONE, 0, NONE], "marks": [1, 1]}
+TABLES_OF_E = {"landings": [1025, 1026], "cells": [0, 0, NONE, NONE, 0, NONE, 0, NONE], "marks": [1, 1]}
+A_WITH_SENDER = SHEETS["A"][:-2] + b"SR\0\x01ED"
+LEGS_WITH_SENDER = {**LEGS_OF_A, "landings": [4, 1024, 1, 2]}
 
 # The least lengths for sheet A, and its plan file's.
 NEEDED = {"starts": 5, "ends": 5, "prices": 5, "landings": 4, "cells": 32, "marks": 4, "plan": 22}
@@ -115,6 +117,10 @@ class Native(unittest.TestCase):
         self.tried(SHEETS["E"], None, 12, [0], TABLES_OF_E)
         self.tried(SHEETS["E"], None, 12, [0], TABLES_OF_E, plan=0, starts=0, ends=0, prices=0)
 
+    def test_no_plan_for_want_of_a_licence_fills_the_tables(self) -> None:
+        self.tried(A_WITH_SENDER, None, 12, [0], {**TABLES_OF_A, **LEGS_WITH_SENDER})
+        self.tried(A_WITH_SENDER, None, 12, [0], {**TABLES_OF_A, **LEGS_WITH_SENDER}, plan=0)
+
     def test_a_short_buffer_is_untouched(self) -> None:
         for length in [0, 10, 21]:
             self.tried(SHEETS["A"], None, 13, [0], TABLES_OF_A, plan=length)
@@ -130,6 +136,11 @@ class Native(unittest.TestCase):
         self.tried(SHEETS["A"], FILE_K, 17, [0], marked)
         self.tried(SHEETS["A"], build_plan(0, 7, [0, 1]), 18, [0], {**LEGS_OF_A, "marks": [1, 1, 1, 0]})
         self.tried(SHEETS["A"], FILE_L, 19, [0], marked)
+        marked = {**LEGS_WITH_SENDER, "marks": [1, 1, 1, 1]}
+        self.tried(A_WITH_SENDER, FILE_OF_A, 20, [0], marked)
+        self.tried(A_WITH_SENDER, FILE_L, 20, [0], marked)
+        self.tried(A_WITH_SENDER, FILE_K, 17, [0], marked)
+        self.tried(A_WITH_SENDER, build_plan(0, 7, [0, 1]), 20, [0], {**marked, "marks": [1, 1, 1, 0]})
 
     def test_null_pointers_for_empty_tables(self) -> None:
         empty: list[Any] = [None, 0]
@@ -140,50 +151,80 @@ class Native(unittest.TestCase):
         self.assertEqual(self.functions.plan(SHEETS["A"], 72, *empty * 8), 11)
         self.assertEqual(self.functions.read_plan(SHEETS["A"], 72, *empty * 7), 11)
         self.assertEqual(self.functions.cell(*empty, 1, 1, 0, 0, *empty), 11)
-        self.assertEqual(self.functions.best_sender(*empty, 1, 1, 0, *empty), 11)
+        self.assertEqual(self.functions.best_sender(*empty, *empty, 1, 1, 0, *empty), 11)
         cells = (ctypes.c_uint32 * 2)(0, 3)
+        landings = (ctypes.c_uint16 * 1)(1024)
         self.assertEqual(self.functions.cell(cells, 2, 1, 1, 0, 1, *empty), 0)
-        self.assertEqual(self.functions.best_sender(cells, 2, 1, 1, 1, *empty), 0)
+        self.assertEqual(self.functions.best_sender(cells, 2, *empty, 1, 1, 1, *empty), 11)
+        self.assertEqual(self.functions.best_sender(*empty, landings, 1, 1, 1, 1, *empty), 11)
+        self.assertEqual(self.functions.best_sender(cells, 2, landings, 1, 1, 1, 1, *empty), 0)
 
-    def asked(self, function: Any, numbers: list[int], number: int, value: int, length: int = 32) -> None:
+    def asked_cell(self, numbers: list[int], number: int, value: int, length: int = 32) -> None:
         """Tests a question about the first so many cells of sheet A, with answers of 0 to 4 entries, and that nothing else is written."""
         for entries in range(5):
             cells = (ctypes.c_uint32 * len(CELLS_OF_A))(*CELLS_OF_A)
             answer = self.garbage(ctypes.c_uint64, entries + 3)
             before = list(answer)
-            self.assertEqual(function(cells, length, *numbers, answer, entries), number, numbers)
+            self.assertEqual(self.functions.cell(cells, length, *numbers, answer, entries), number, numbers)
             self.assertEqual(list(answer), over([value][:entries], before), numbers)
             self.assertEqual(list(cells), CELLS_OF_A)
 
+    def asked_sender(self, numbers: list[int], number: int, value: int, length: int = 32, flags: Optional[list[int]] = None) -> None:
+        """The same of a best sender, with these landing entries; without them they are those of sheet A."""
+        given = LEGS_OF_A["landings"] if flags is None else flags
+        for entries in range(5):
+            cells = (ctypes.c_uint32 * len(CELLS_OF_A))(*CELLS_OF_A)
+            landings = (ctypes.c_uint16 * len(given))(*given)
+            answer = self.garbage(ctypes.c_uint64, entries + 3)
+            before = list(answer)
+            arguments = [cells, length, landings, len(given), *numbers, answer, entries]
+            self.assertEqual(self.functions.best_sender(*arguments), number, numbers)
+            self.assertEqual(list(answer), over([value][:entries], before), numbers)
+            self.assertEqual((list(cells), list(landings)), (CELLS_OF_A, given))
+
     def test_cells(self) -> None:
         for place, cell in enumerate(CELLS_OF_A):
-            self.asked(self.functions.cell, [4, 3, place // 8, place % 8], 0, cell)
-        self.asked(self.functions.cell, [3, 3, 2, 1], 0, 0)
-        self.asked(self.functions.cell, [3, 3, 2, 1], 0, 0, length=24)
+            self.asked_cell([4, 3, place // 8, place % 8], 0, cell)
+        self.asked_cell([3, 3, 2, 1], 0, 0)
+        self.asked_cell([3, 3, 2, 1], 0, 0, length=24)
 
     def test_senders(self) -> None:
         for subset, site in [(1, 2), (2, 3), (3, 1), (4, 0), (5, 0), (6, 0), (7, 0)]:
-            self.asked(self.functions.best_sender, [4, 3, subset], 0, site)
+            self.asked_sender([4, 3, subset], 0, site)
         unserved = (ctypes.c_uint32 * 4)(0, NONE, 0, NONE)
+        landings = (ctypes.c_uint16 * 2)(1024, 1024)
         answer = (ctypes.c_uint64 * 2)(9, 9)
-        self.assertEqual(self.functions.best_sender(unserved, 4, 2, 1, 1, answer, 2), 0)
+        self.assertEqual(self.functions.best_sender(unserved, 4, landings, 2, 2, 1, 1, answer, 2), 0)
         self.assertEqual(list(answer), [2**64 - 1, 9])
+
+    def test_senders_by_their_flags(self) -> None:
+        none = 2**64 - 1
+        for subset, site in [(0, 1), (1, 1), (2, 1), (3, 1), (4, none), (7, none)]:
+            self.asked_sender([4, 3, subset], 0, site, flags=[4, 1024, 1, 2])
+        for subset, site in [(0, 3), (1, none), (2, 3), (3, none)]:
+            self.asked_sender([4, 3, subset], 0, site, flags=[63488, 1023, 2048, 65535])
+        self.asked_sender([4, 3, 0], 0, none, flags=[0, 0, 0, 0])
+        self.asked_sender([4, 3, 3], 0, none, flags=[0, 0, 0, 0, 1024])
+        for subset in [0, 7, 8]:
+            self.asked_sender([4, 3, subset], 11, 0, flags=[1024, 1024, 1024])
+            self.asked_sender([4, 3, subset], 11, 0, flags=[])
+            self.asked_sender([4, 11, subset], 3, 0, flags=[])
 
     def test_refusals_of_the_enquirer(self) -> None:
         highest = 2**32 - 1
         for sites, stations in [(0, 3), (1025, 3), (highest, 3), (65540, 3), (4, 0), (4, 11), (4, 259), (4, highest)]:
             for site, subset in [(0, 0), (highest, highest)]:
-                self.asked(self.functions.cell, [sites, stations, site, subset], 3, 0)
-                self.asked(self.functions.best_sender, [sites, stations, subset], 3, 0, length=0)
+                self.asked_cell([sites, stations, site, subset], 3, 0)
+                self.asked_sender([sites, stations, subset], 3, 0, length=0)
         for site, subset in [(0, 0), (4, 0), (0, 8), (highest, highest)]:
-            self.asked(self.functions.cell, [4, 3, site, subset], 11, 0, length=31)
-            self.asked(self.functions.best_sender, [4, 3, subset], 11, 0, length=31)
+            self.asked_cell([4, 3, site, subset], 11, 0, length=31)
+            self.asked_sender([4, 3, subset], 11, 0, length=31)
         for site in [4, 5, 65536, highest]:
-            self.asked(self.functions.cell, [4, 3, site, 0], 4, 0)
-            self.asked(self.functions.cell, [4, 3, site, 8], 4, 0)
+            self.asked_cell([4, 3, site, 0], 4, 0)
+            self.asked_cell([4, 3, site, 8], 4, 0)
         for subset in [8, 9, 65536, highest]:
-            self.asked(self.functions.cell, [4, 3, 3, subset], 5, 0)
-            self.asked(self.functions.best_sender, [4, 3, subset], 5, 0)
+            self.asked_cell([4, 3, 3, subset], 5, 0)
+            self.asked_sender([4, 3, subset], 5, 0)
 
 
 if __name__ == "__main__":

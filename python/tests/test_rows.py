@@ -34,7 +34,7 @@ class Rows(unittest.TestCase):
     def test_the_accounts_are_the_samples(self) -> None:
         # I has no row, and J has a byte that is no record
         found = accounts()
-        self.assertEqual(sorted(found), ["A", "B", "C", "D", "E", "F", "G", "H", "J", "fjord"])
+        self.assertEqual(sorted(found), ["A", "B", "C", "D", "E", "F", "G", "H", "J", "fjord", "licence", "unlicensed"])
         for name, rows in found.items():
             sheet = (SAMPLES / f"{name}.sheet").read_bytes()
             self.assertEqual(sheet_of(rows), sheet[:-1] if name == "J" else sheet, name)
@@ -44,16 +44,22 @@ class Rows(unittest.TestCase):
 
     def test_rows_that_are_no_records(self) -> None:
         for rows, fault in [
-            ("HD 1 1\nXX 0", "line 2: XX is none of HD, LK, BK, ST, ED"),
+            ("HD 1 1\nXX 0", "line 2: XX is none of HD, LK, BK, ST, SR, ED"),
             ("HD 1", "line 1: HD takes 2 numbers, not 1"),
             ("ED 0", "line 1: ED takes 0 numbers, not 1"),
             ("\nST 0 -1", "line 2: -1 is no number"),
             ("LK 0 1 4.5", "line 1: 4.5 is no number"),
             ("LK 0 65536 4", "line 1: end 65536 does not fit 2 bytes"),
+            ("SR", "line 1: SR takes 1 number, not 0"),
+            ("SR 0 1", "line 1: SR takes 1 number, not 2"),
+            ("SR 65536", "line 1: site 65536 does not fit 2 bytes"),
         ]:
             with self.assertRaises(ValueError) as raised:
                 sheet_of(rows)
             self.assertEqual(str(raised.exception), fault)
+
+    def test_a_sender(self) -> None:
+        self.assertEqual(sheet_of("HD 4 1\nSR 3\nST 0 0\nSR 258\nED"), b"HD\0\x04\x01SR\0\x03ST\0\0\0SR\x01\x02ED")
 
     def test_the_command(self) -> None:
         with tempfile.TemporaryDirectory() as folder:

@@ -10,7 +10,7 @@ from pathlib import Path
 from typing import Union
 
 from brute import cells_by_growth, network_of, planned
-from uldhvamm import BothWays, Landing, Leg, Plan, Refusal, Row, build_plan, build_sheet, load
+from uldhvamm import BothWays, Landing, Leg, Plan, Refusal, Row, Sender, build_plan, build_sheet, load
 from worked import SHEETS
 
 SAMPLES = Path(__file__).resolve().parents[2] / "samples"
@@ -49,6 +49,9 @@ FJORD: list[Row] = [
     Landing(4, 11),
 ]
 
+# The legs and landings of licence and unlicensed, which differ in their senders.
+LICENCE: list[Row] = [Leg(0, 1, 300), Leg(0, 2, 200), Leg(1, 0, 350), Leg(3, 0, 400), Landing(0, 1), Landing(1, 2)]
+
 
 def listing(answer: Union[Plan, Refusal]) -> str:
     """The text of the desk program for an answer."""
@@ -63,7 +66,12 @@ class Samples(unittest.TestCase):
     """Each sample has a sheet and a text."""
 
     def test_the_sheets_are_those_named(self) -> None:
-        sheets = {**SHEETS, "fjord": build_sheet(12, 5, FJORD)}
+        sheets = {
+            **SHEETS,
+            "fjord": build_sheet(12, 5, FJORD),
+            "licence": build_sheet(4, 2, [*LICENCE, Sender(1), Sender(3)]),
+            "unlicensed": build_sheet(4, 2, [*LICENCE, Sender(2)]),
+        }
         self.assertEqual({path.stem: path.read_bytes() for path in SAMPLES.glob("*.sheet")}, sheets)
 
     def test_the_texts_are_those_of_the_answers(self) -> None:
@@ -81,6 +89,23 @@ class Samples(unittest.TestCase):
         assert isinstance(answer, Plan)
         self.assertEqual(answer.file, build_plan(*expected))
         self.assertEqual([cells[site][31] for site in (0, 11)], [92000, 80500])
+
+    def test_the_plans_of_licence_and_unlicensed_are_those_by_trial(self) -> None:
+        cells = cells_by_growth(network_of(4, 2, LICENCE))
+        self.assertEqual([row[3] for row in cells], [500, 550, None, 900])
+        for senders, expected in [
+            ([], (0, 500, [0, 1])),
+            ([Sender(1), Sender(3)], (1, 550, [2, 1])),
+            ([Sender(2)], None),
+        ]:
+            rows = [*LICENCE, *senders]
+            self.assertEqual(planned(network_of(4, 2, rows), cells), expected)
+            answer = load().plan(build_sheet(4, 2, rows))
+            if expected is None:
+                self.assertEqual(answer, Refusal(12, 0))
+            else:
+                assert isinstance(answer, Plan)
+                self.assertEqual(answer.file, build_plan(*expected))
 
 
 if __name__ == "__main__":

@@ -8,7 +8,7 @@ from concurrent.futures import ThreadPoolExecutor
 from pathlib import Path
 from unittest import mock
 
-from uldhvamm import Accepted, BothWays, Family, Landing, Leg, Plan, PlannedLeg, Refusal, Row, build_plan, build_sheet, load
+from uldhvamm import Accepted, BothWays, Family, Landing, Leg, Plan, PlannedLeg, Refusal, Row, Sender, build_plan, build_sheet, load
 from worked import FILE_K, FILE_L, FILE_OF_A, SHEETS
 
 
@@ -23,16 +23,22 @@ class Encoding(unittest.TestCase):
         self.assertEqual(build_sheet(2, 2, [BothWays(0, 1, 7), Landing(0, 0), Landing(1, 1)]), SHEETS["D"])
 
     def test_numbers_have_the_highest_byte_first(self) -> None:
-        sheet = build_sheet(0x0102, 0x03, [Leg(0x0405, 0x0607, 0x08090A0B), BothWays(1, 2, 3), Landing(0x0C, 0x0D0E)])
+        sheet = build_sheet(0x0102, 0x03, [Leg(0x0405, 0x0607, 0x08090A0B), BothWays(1, 2, 3), Landing(0x0C, 0x0D0E), Sender(0x0F10)])
         self.assertEqual(
             sheet,
-            b"HD\x01\x02\x03" b"LK\x04\x05\x06\x07\x08\x09\x0a\x0b" b"BK\x00\x01\x00\x02\x00\x00\x00\x03" b"ST\x0c\x0d\x0e" b"ED",
+            b"HD\x01\x02\x03"
+            b"LK\x04\x05\x06\x07\x08\x09\x0a\x0b"
+            b"BK\x00\x01\x00\x02\x00\x00\x00\x03"
+            b"ST\x0c\x0d\x0e"
+            b"SR\x0f\x10"
+            b"ED",
         )
         self.assertEqual(build_plan(0x0102, 0x03040506, [0x0708]), b"PN\x01\x02\x03\x04\x05\x06\x00\x01LG\x07\x08")
 
     def test_the_highest_numbers_fit(self) -> None:
-        rows: list[Row] = [Leg(65535, 65535, 4294967295), Landing(255, 65535)]
-        self.assertEqual(build_sheet(65535, 255, rows), b"HD" + b"\xff" * 3 + b"LK" + b"\xff" * 8 + b"ST" + b"\xff" * 3 + b"ED")
+        rows: list[Row] = [Leg(65535, 65535, 4294967295), Landing(255, 65535), Sender(65535)]
+        records = b"HD" + b"\xff" * 3 + b"LK" + b"\xff" * 8 + b"ST" + b"\xff" * 3 + b"SR" + b"\xff" * 2 + b"ED"
+        self.assertEqual(build_sheet(65535, 255, rows), records)
         self.assertEqual(build_plan(65535, 4294967295, [65535]), b"PN" + b"\xff" * 6 + b"\x00\x01LG\xff\xff")
         self.assertEqual(len(build_plan(0, 0, [0] * 65535)), 10 + 4 * 65535)
 
@@ -47,6 +53,8 @@ class Encoding(unittest.TestCase):
             lambda: build_sheet(1, 1, [BothWays(0, -1, 1)]),
             lambda: build_sheet(1, 1, [Landing(256, 0)]),
             lambda: build_sheet(1, 1, [Landing(0, 65536)]),
+            lambda: build_sheet(1, 1, [Sender(65536)]),
+            lambda: build_sheet(1, 1, [Sender(-1)]),
             lambda: build_plan(65536, 0, []),
             lambda: build_plan(0, 4294967296, []),
             lambda: build_plan(0, 0, [65536]),
@@ -132,15 +140,17 @@ class Refusals(unittest.TestCase):
         if family is Family.SHEET:
             self.assertEqual(self.library.read_plan(sheet, FILE_OF_A), answer)
 
-    def file_refused(self, file: bytes, number: int, word: str, place: int) -> None:
-        """Tests that the reader refuses a plan file against sheet A."""
-        answer = self.library.read_plan(SHEETS["A"], file)
+    def file_refused(self, file: bytes, number: int, word: str, place: int, sheet: bytes = SHEETS["A"]) -> None:
+        """Tests that the reader refuses a plan file against a sheet, which is A where none is named."""
+        answer = self.library.read_plan(sheet, file)
         self.assertEqual(answer, Refusal(number, place))
         assert isinstance(answer, Refusal)
         self.assertEqual((answer.word, answer.family), (word, Family.PLAN_FILE))
 
     def test_1(self) -> None:
         for sheet, place in [(b"H", 0), (b"HD\0\x01", 0), (SHEETS["A"][:-1], 70), (SHEETS["A"][:-2], 70), (SHEETS["A"][:14], 5)]:
+            self.refused(sheet, 1, "short sheet", place, Family.SHEET)
+        for sheet, place in [(SHEETS["A"][:-2] + b"SR", 70), (SHEETS["A"][:-2] + b"SR\0", 70), (SHEETS["A"][:-2] + b"SR\0\0", 74)]:
             self.refused(sheet, 1, "short sheet", place, Family.SHEET)
 
     def test_2(self) -> None:
@@ -152,7 +162,7 @@ class Refusals(unittest.TestCase):
             self.refused(build_sheet(sites, stations, [Landing(0, 0)]), 3, "bad head", 0, Family.SHEET)
 
     def test_4(self) -> None:
-        rows: list[Row] = [Leg(2, 0, 1), Leg(0, 2, 1), BothWays(65535, 0, 1), Landing(0, 2)]
+        rows: list[Row] = [Leg(2, 0, 1), Leg(0, 2, 1), BothWays(65535, 0, 1), Landing(0, 2), Sender(2), Sender(65535)]
         for row in rows:
             self.refused(build_sheet(2, 1, [Leg(0, 1, 1), row]), 4, "no such site", 15, Family.SHEET)
 
@@ -177,6 +187,7 @@ class Refusals(unittest.TestCase):
         self.refused(SHEETS["E"], 12, "no plan", 0, Family.SEARCH)
         apart = build_sheet(3, 2, [Leg(0, 2, 1), Leg(1, 2, 1), Landing(0, 0), Landing(1, 1)])
         self.refused(apart, 12, "no plan", 0, Family.SEARCH)
+        self.refused(SHEETS["A"][:-2] + b"SR\0\x01ED", 12, "no plan", 0, Family.SEARCH)
 
     def test_14(self) -> None:
         for file in [b"", FILE_OF_A[:9], FILE_OF_A[:-1], build_plan(0, 0, [])[:8] + b"\xff\xff"]:
@@ -203,8 +214,15 @@ class Refusals(unittest.TestCase):
         for total in [0, 9, 4294967295]:
             self.file_refused(build_plan(0, total, [0, 1, 2]), 19, "false total", 0)
 
+    def test_20(self) -> None:
+        sheet = SHEETS["A"][:-2] + b"SR\0\x01ED"
+        for root, total, legs in [(0, 10, [0, 1, 2]), (0, 11, [0, 1, 2]), (0, 7, [0, 1]), (3, 0, [])]:
+            self.file_refused(build_plan(root, total, legs), 20, "not a sender", 0, sheet)
+        self.file_refused(FILE_K, 17, "no tree", 0, sheet)
+        self.file_refused(build_plan(1, 6, [1, 2]), 18, "station missed", 0, sheet)
+
     def test_numbers_of_no_refusal_are_errors(self) -> None:
-        for number in [0, 20]:
+        for number in [0, 21]:
             with self.assertRaises(ValueError):
                 Refusal(number, 0)
         self.assertEqual([Refusal(number, 0).family for number in [11, 13]], [Family.TABLES] * 2)

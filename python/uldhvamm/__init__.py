@@ -1,14 +1,15 @@
 """Uldhvamm, a planner of radio relays, for Python.
 
-From a sheet (sites, priced one-way legs, listening stations, and the sites where each station can be heard) the planner finds the
-cheapest directed tree of legs that reaches every station. The planning, the plan reader and the enquirer are those of the library
-libuldhvamm.so; this package encodes sheets and plan files, calls the library and decodes its answers. It needs nothing but the standard
-library.
+From a sheet (sites, priced one-way legs, listening stations, the sites where each station can be heard, and the sites that may send) the
+planner finds the cheapest directed tree of legs that leads from a site that may send to every station. The planning, the plan reader and
+the enquirer are those of the library libuldhvamm.so; this package encodes sheets and plan files, calls the library and decodes its
+answers. It needs nothing but the standard library.
 
-    from uldhvamm import BothWays, CostTable, Landing, Leg, Plan, build_sheet, load
+    from uldhvamm import BothWays, CostTable, Landing, Leg, Plan, Sender, build_sheet, load
 
     library = load()
     sheet = build_sheet(3, 2, [Leg(0, 1, 900), BothWays(1, 2, 400), Landing(0, 0), Landing(1, 2)])
+    licensed = build_sheet(2, 1, [Landing(0, 0), Landing(0, 1), Sender(1)])  # only site 1 may send
     answer = library.plan(sheet)
     if isinstance(answer, Plan):
         print(answer.root, answer.total, answer.legs)
@@ -25,7 +26,7 @@ The enquirer answers questions about the cost table of a sheet. A subset of the 
 
 from .answers import Accepted, BestSender, Cell, Family, Plan, PlannedLeg, Refusal
 from .cost_table import CostTable
-from .formats import BothWays, Landing, Leg, Row, build_plan, build_sheet
+from .formats import BothWays, Landing, Leg, Row, Sender, build_plan, build_sheet
 from .library import Library, load
 
 __all__ = [
@@ -42,6 +43,7 @@ __all__ = [
     "PlannedLeg",
     "Refusal",
     "Row",
+    "Sender",
     "build_plan",
     "build_sheet",
     "load",

@@ -1,7 +1,7 @@
 """Makes a sheet from rows of text: `python3 -m uldhvamm ROWS SHEET`.
 
-ROWS is a text file with one record on a line, its mark and its numbers apart by spaces: `HD 4 3`, `LK 0 1 4`, `BK 0 1 7`, `ST 0 2`, `ED`.
-Empty lines and what follows a `#` are passed over. SHEET is the file that is written.
+ROWS is a text file with one record on a line, its mark and its numbers apart by spaces: `HD 4 3`, `LK 0 1 4`, `BK 0 1 7`, `ST 0 2`, `SR 3`,
+`ED`. Empty lines and what follows a `#` are passed over. SHEET is the file that is written.
 """
 
 from __future__ import annotations

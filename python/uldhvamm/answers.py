@@ -1,5 +1,5 @@
-"""What the library answers: a plan, an accepted plan file, a cell, a best sender, or a refusal with document 01's number, word, place and
-family.
+"""What the library answers: a plan, an accepted plan file, a cell, a best sender, or a refusal with its number, word, place and family
+after documents 01 and 02.
 """
 
 from __future__ import annotations
@@ -47,7 +47,7 @@ class Cell:
 
 @dataclass(frozen=True)
 class BestSender:
-    """The best sender of a subset: a site whose cell is least and finite, or None where no cell of the subset is finite.
+    """The best sender of a subset: of the sites that may send, one whose cell is least and finite, or None where none has a finite cell.
 
     Which of several equally cheap sites is given is left free.
     """
@@ -84,12 +84,13 @@ _WORDS = {
     17: "no tree",
     18: "station missed",
     19: "false total",
+    20: "not a sender",
 }
 
 
 @dataclass(frozen=True)
 class Refusal:
-    """A refusal: its number in document 01's table, and its place.
+    """A refusal: its number in documents 01 and 02, and its place.
 
     The place of 1 to 10 counts in the bytes of the sheet, that of 15 and 16 in those of the plan file; that of the others, and of all
     that the enquirer gives, is 0.
@@ -104,7 +105,7 @@ class Refusal:
 
     @property
     def word(self) -> str:
-        """The word for it in document 01's table."""
+        """The word for it in documents 01 and 02."""
         return _WORDS[self.number]
 
     @property

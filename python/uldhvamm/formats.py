@@ -37,7 +37,14 @@ class Landing:
     site: int
 
 
-Row = Union[Leg, BothWays, Landing]
+@dataclass(frozen=True)
+class Sender:
+    """A record `SR`: a site may send. A sheet without one lets every site send."""
+
+    site: int
+
+
+Row = Union[Leg, BothWays, Landing, Sender]
 
 
 # The fields of each record of a sheet: their names and their bytes.
@@ -46,6 +53,7 @@ _FIELDS: dict[str, tuple[tuple[str, int], ...]] = {
     "LK": (("start", 2), ("end", 2), ("price", 4)),
     "BK": (("start", 2), ("end", 2), ("price", 4)),
     "ST": (("station", 1), ("site", 2)),
+    "SR": (("site", 2),),
     "ED": (),
 }
 
@@ -60,8 +68,9 @@ def encode_words(words: Sequence[str]) -> bytes:
     mark, numbers = words[0], words[1:]
     if mark not in _FIELDS:
         raise ValueError(f"{mark} is none of {', '.join(_FIELDS)}")
-    if len(numbers) != len(_FIELDS[mark]):
-        raise ValueError(f"{mark} takes {len(_FIELDS[mark])} numbers, not {len(numbers)}")
+    needed = len(_FIELDS[mark])
+    if len(numbers) != needed:
+        raise ValueError(f"{mark} takes {needed} {'number' if needed == 1 else 'numbers'}, not {len(numbers)}")
     for number in numbers:
         if not (number.isascii() and number.isdigit()):
             raise ValueError(f"{number} is no number")
@@ -82,7 +91,9 @@ def _row(row: Row) -> bytes:
         return _record("BK", (row.start, row.end, row.price))
     if isinstance(row, Landing):
         return _record("ST", (row.station, row.site))
-    raise TypeError(f"a row is a Leg, a BothWays or a Landing, not {row!r}")
+    if isinstance(row, Sender):
+        return _record("SR", (row.site,))
+    raise TypeError(f"a row is a Leg, a BothWays, a Landing or a Sender, not {row!r}")
 
 
 def _record(mark: str, numbers: Sequence[int]) -> bytes:

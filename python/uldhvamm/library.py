@@ -79,7 +79,7 @@ class Library:
         return tables.planned() if number == 0 else Refusal(number, tables.answer[0])
 
     def read_plan(self, sheet: bytes, file: bytes) -> Union[Accepted, Refusal]:
-        """Whether a plan file is that of a directed tree of the sheet's legs that reaches every station, with its true total."""
+        """Whether a plan file is that of a directed tree of the sheet's legs, from a sender to every station, with its true total."""
         given = _plain(sheet)
         read = _plain(file)
         tables = _Tables(0)
@@ -96,12 +96,15 @@ class Library:
         return Accepted(*tables.answer[:]) if number == 0 else Refusal(number, tables.answer[0])
 
     def cost_table(self, sheet: bytes) -> Union[CostTable, Refusal]:
-        """The cost table of a sheet, as the planning leaves it, also where there is no plan; or why the sheet is refused."""
+        """The cost table of a sheet and its landing sets, as the planning leaves them, also where there is no plan; or why the sheet is
+        refused.
+        """
         given = _plain(sheet)
         number, tables = self._planned(given)
         if number not in _FINISHED:
             return Refusal(number, tables.answer[0])
-        return CostTable.of_array(*_head_of(given), tables.cells)
+        sites, stations = _head_of(given)
+        return CostTable.of_arrays(sites, stations, tables.cells, (ctypes.c_uint16 * sites)(*tables.landings[:sites]))
 
     def cell(self, table: CostTable, site: int, subset: int) -> Union[Cell, Refusal]:
         """The cell of a site and a subset of the stations, in which station i is worth 2^i.
@@ -111,19 +114,24 @@ class Library:
         """
         value = _Value()
         asked = [fitting("site", site, 4), fitting("subset", subset, 4)]
-        number = self._functions.cell(*_lent_table(table), *asked, *_lent(value))
+        _require_table(table)
+        number = self._functions.cell(*_lent(table.lent_cells), table.sites, table.stations, *asked, *_lent(value))
         if number != 0:
             return Refusal(number, value[0])
         return Cell(None if value[0] == NO_COST else value[0])
 
     def best_sender(self, table: CostTable, subset: int) -> Union[BestSender, Refusal]:
-        """A site whose cell of a subset of the stations is least and finite, or that there is none. Station i is worth 2^i in the subset.
+        """Of the sites that may send, one whose cell of a subset of the stations is least and finite, or that there is none. Station i is
+        worth 2^i in the subset.
 
-        Refused are, in this order: a bad head (3), too few cells (11), a subset that the table has not (5). A number that does not fit
-        four bytes is a ValueError.
+        Refused are, in this order: a bad head (3), too few cells or landing entries (11), a subset that the table has not (5). A number
+        that does not fit four bytes is a ValueError.
         """
         value = _Value()
-        number = self._functions.best_sender(*_lent_table(table), fitting("subset", subset, 4), *_lent(value))
+        asked = fitting("subset", subset, 4)
+        _require_table(table)
+        tables = [*_lent(table.lent_cells), *_lent(table.lent_landings)]
+        number = self._functions.best_sender(*tables, table.sites, table.stations, asked, *_lent(value))
         if number != 0:
             return Refusal(number, value[0])
         return BestSender(None if value[0] == NO_SENDER else value[0])
@@ -199,8 +207,7 @@ def _lent(entries: Any) -> tuple[Any, int]:
     return entries, len(entries)
 
 
-def _lent_table(table: CostTable) -> tuple[Any, int, int, int]:
-    """A cost table as the library takes it: its cells and their number, and the numbers of sites and stations."""
+def _require_table(table: CostTable) -> None:
+    """Raises a TypeError where this is no cost table."""
     if not isinstance(table, CostTable):
         raise TypeError(f"a CostTable is needed, not {type(table).__name__}")
-    return table.lent, len(table.lent), table.sites, table.stations

@@ -30,12 +30,12 @@ _READ_PLAN: list[Any] = [*_BYTES, *_BYTES, *_LEGS_AND_LANDINGS, *_TABLE_8, *_TAB
 # cells, sites, stations, site, subset, answer
 _CELL: list[Any] = [*_TABLE_32, *_NUMBER, *_NUMBER, *_NUMBER, *_NUMBER, *_TABLE_64]
 
-# cells, sites, stations, subset, answer
-_BEST_SENDER: list[Any] = [*_TABLE_32, *_NUMBER, *_NUMBER, *_NUMBER, *_TABLE_64]
+# cells, landings, sites, stations, subset, answer
+_BEST_SENDER: list[Any] = [*_TABLE_32, *_TABLE_16, *_NUMBER, *_NUMBER, *_NUMBER, *_TABLE_64]
 
 
 # The number of the interface that is declared here.
-INTERFACE = 1
+INTERFACE = 2
 
 
 class Functions(NamedTuple):

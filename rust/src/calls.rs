@@ -8,7 +8,7 @@
 use crate::tables::{Answer, CostTable, Enquiry, Lent, Question, Tables};
 
 /// The number of the interface that is declared here.
-pub const INTERFACE: u32 = 1;
+pub const INTERFACE: u32 = 2;
 
 /// The most sites, stations and legs of a sheet.
 pub const MAX_SITES: usize = 1024;
@@ -17,6 +17,9 @@ pub const MAX_LEGS: usize = 8192;
 
 /// A cell for which there is no tree.
 pub const NO_COST: u32 = 4_294_967_295;
+
+/// What is added to the landing entry of a site that may send.
+pub const SENDER_FLAG: u16 = 1024;
 
 extern "C" {
     fn uldhvamm_interface() -> u32;
@@ -75,6 +78,8 @@ extern "C" {
     fn uldhvamm_best_sender(
         cells: *const u32,
         cells_length: usize,
+        landings: *const u16,
+        landings_length: usize,
         sites: u32,
         stations: u32,
         subset: u32,
@@ -162,7 +167,8 @@ pub fn read_plan_lent(sheet: &[u8], file: &[u8], lent: Lent, answer: &mut [u64])
     }
 }
 
-/// Asks for the cell of a site and a subset. Returns 0 for a cell, "none" too, else the number of the refusal.
+/// Asks for the cell of a site and a subset. Returns 0 for a cell, "none" too, else the number of the refusal. The landing sets are not
+/// lent.
 pub fn cell(table: CostTable, site: u32, subset: u32, answer: &mut [u64]) -> u32 {
     check_interface();
     // SAFETY: each pointer and length are those of one slice; the mutable slice overlaps nothing.
@@ -188,6 +194,8 @@ pub fn best_sender(table: CostTable, subset: u32, answer: &mut [u64]) -> u32 {
         uldhvamm_best_sender(
             table.cells.as_ptr(),
             table.cells.len(),
+            table.landings.as_ptr(),
+            table.landings.len(),
             table.sites,
             table.stations,
             subset,

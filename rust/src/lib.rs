@@ -32,5 +32,5 @@ pub use calls::{answer_to_file, answer_to_question, answer_to_sheet};
 pub use calls::{
     best_sender, cell, enquire, interface, plan, plan_lent, read_plan, read_plan_lent,
 };
-pub use calls::{INTERFACE, MAX_LEGS, MAX_SITES, MAX_STATIONS, NO_COST};
+pub use calls::{INTERFACE, MAX_LEGS, MAX_SITES, MAX_STATIONS, NO_COST, SENDER_FLAG};
 pub use tables::{Answer, CostTable, Enquiry, Lengths, Lent, Question, Tables, NO_SENDER};

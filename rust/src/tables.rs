@@ -29,7 +29,7 @@ impl Lengths {
     }
 }
 
-/// The lent tables and the plan buffer.
+/// The lent tables and the plan buffer. An entry of `landings` is the site's set of stations, and `SENDER_FLAG` more where it may send.
 #[derive(Clone, Debug, PartialEq, Eq)]
 pub struct Tables {
     pub starts: Vec<u16>,
@@ -106,7 +106,7 @@ pub struct Lent<'a> {
 pub enum Answer {
     /// A plan, or an accepted plan file.
     Plan { root: u64, total: u64, legs: u64 },
-    /// A refusal of document 01's table.
+    /// A refusal of documents 01 and 02.
     Refused { number: u32, place: u64 },
 }
 
@@ -127,10 +127,13 @@ impl Answer {
     }
 }
 
-/// A cost table with its numbers of sites and stations beside it. It need not be a finished one.
+/// A cost table with its landing sets and its numbers of sites and stations beside it. It need not be a finished one.
+///
+/// A landing entry is a sender's where its bit `SENDER_FLAG` is set. Only the question for the best sender looks at the landing sets.
 #[derive(Clone, Copy, Debug)]
 pub struct CostTable<'a> {
     pub cells: &'a [u32],
+    pub landings: &'a [u16],
     pub sites: u32,
     pub stations: u32,
 }
@@ -140,7 +143,7 @@ pub struct CostTable<'a> {
 pub enum Question {
     /// The cell of a site and a subset.
     Cell { site: u32, subset: u32 },
-    /// The best sender of a subset.
+    /// The best sender of a subset, among the sites that may send.
     BestSender { subset: u32 },
 }
 
@@ -152,9 +155,9 @@ pub const NO_SENDER: u64 = u64::MAX;
 pub enum Enquiry {
     /// A cell as it stands in the table; 4,294,967,295 is "none".
     Cell { cell: u64 },
-    /// A site whose cell is least and finite.
+    /// A sender whose cell is finite and not above another sender's.
     Sender { site: u64 },
-    /// No cell of the subset is finite.
+    /// No sender has a finite cell of the subset.
     NoSender,
     /// A refusal of document 01's table.
     Refused { number: u32, place: u64 },

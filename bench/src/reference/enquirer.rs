@@ -1,5 +1,6 @@
-//! What the enquirer is to answer, in the order 3, 11, 4, 5, each at place 0.
+//! What the enquirer is to answer, in the order 3, 11, 4, 5, each at place 0. The best sender is looked for among the flagged sites.
 
+use super::sheet::FLAG;
 use super::NO_COST;
 use uldhvamm::{CostTable, Question, NO_SENDER};
 
@@ -40,18 +41,22 @@ fn cell(table: CostTable, site: u32, subset: u32) -> Result<Vec<u64>, u32> {
     Ok(vec![u64::from(cell)])
 }
 
-/// Every site whose cell is finite and not above another site's, or `NO_SENDER` alone, or the number of the refusal.
+/// Every flagged site whose cell is finite and not above another flagged site's, or `NO_SENDER` alone, or the number of the refusal.
 fn best_senders(table: CostTable, subset: u32) -> Result<Vec<u64>, u32> {
     let sets = sets(table)?;
+    let entries = table.landings.get(..table.sites as usize).ok_or(11_u32)?;
     if subset as usize >= sets {
         return Err(5);
     }
-    let rows = table.cells.chunks_exact(sets).take(table.sites as usize);
-    let column: Vec<u32> = rows.map(|row| row[subset as usize]).collect();
-    let least = column.iter().copied().min();
+    let rows = (0..).zip(table.cells.chunks_exact(sets).zip(entries));
+    let flagged = rows.filter(|(_, (_, &entry))| entry & FLAG != 0);
+    let senders: Vec<(u64, u32)> = flagged
+        .map(|(site, (row, _))| (site, row[subset as usize]))
+        .collect();
+    let least = senders.iter().map(|&(_, cell)| cell).min();
     let is_best = |cell: u32| cell != NO_COST && Some(cell) == least;
-    let sites = (0..).zip(column).filter(|&(_, cell)| is_best(cell));
-    let best: Vec<u64> = sites.map(|(site, _)| site).collect();
+    let found = senders.into_iter().filter(|&(_, cell)| is_best(cell));
+    let best: Vec<u64> = found.map(|(site, _)| site).collect();
     Ok(if best.is_empty() {
         vec![NO_SENDER]
     } else {
@@ -59,7 +64,7 @@ fn best_senders(table: CostTable, subset: u32) -> Result<Vec<u64>, u32> {
     })
 }
 
-/// The number of subsets of the stations, after the tests for 3 and 11.
+/// The number of subsets of the stations, after the tests for 3 and for the cells' 11.
 fn sets(table: CostTable) -> Result<usize, u32> {
     if !(1..=1024).contains(&table.sites) || !(1..=10).contains(&table.stations) {
         return Err(3);

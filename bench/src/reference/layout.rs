@@ -1,4 +1,4 @@
-//! The root and the legs of the plan, from a finished cost table, by document 01's rule.
+//! The root of the plan, after W-201 of document 02, and its legs, by document 01's rule, from a finished cost table.
 
 use super::groups::Groups;
 use super::plan_file::PlanFile;
@@ -12,10 +12,11 @@ struct Layout<'a> {
     departures: Groups<usize>,
 }
 
-/// The lowest site whose full-set cell is least and finite.
+/// The lowest sender whose full-set cell is least among the senders and finite.
 pub fn best_root(sheet: &Sheet, cells: &[u32]) -> Option<usize> {
     let full = |site: &usize| cells[(*site << sheet.stations) + sheet.full()];
-    let root = (0..sheet.sites).min_by_key(full)?;
+    let senders = (0..sheet.sites).filter(|&site| sheet.senders[site]);
+    let root = senders.min_by_key(full)?;
     (full(&root) != NO_COST).then_some(root)
 }
 

@@ -1,15 +1,15 @@
-//! The independent implementation, written after document 01 and docs/DECISIONS.md, without the code of the crates.
+//! The independent implementation, written after documents 01 and 02 and docs/DECISIONS.md, without the code of the crates.
 //!
 //! What the tables, the plan buffer and `answer` hold after the planning:
 //! - 1 to 11: all as before, but `answer` has the place;
-//! - 12 and 13: the first entries of the tables hold legs, landing sets, costs, and marks of 1; the plan buffer is as before;
-//!   `answer` has the place 0;
+//! - 12 and 13: the first entries of the tables hold legs, landing sets with the senders' flags, costs, and marks of 1; the plan buffer
+//!   is as before; `answer` has the place 0;
 //! - a plan: the tables as for 12, the plan buffer begins with the plan file, `answer` has root, total and number of legs.
 //!
 //! After the reading of a plan file, which leaves cells and plan buffer alone:
 //! - 1 to 11: all as before, but `answer` has the place;
 //! - 14, 15 and 16: leg tables and landing sets filled, marks as before; `answer` has the place;
-//! - 17, 18 and 19: these filled too, and the first n marks 1 for sites reached from the root, else 0; `answer` has the place 0;
+//! - 17, 20, 18 and 19: these filled too, and the first n marks 1 for sites reached from the root, else 0; `answer` has the place 0;
 //! - acceptance: the tables as for 17, `answer` has root, total and number of legs.
 //!
 //! `answer` gets as many of its values as it has entries. Entries past those named are as before.
@@ -32,7 +32,7 @@ use uldhvamm::Tables;
 /// A cell for which there is no tree.
 pub const NO_COST: u32 = u32::MAX;
 
-/// A refusal: its number in document 01's table, and its place.
+/// A refusal: its number in documents 01 and 02, and its place.
 #[derive(Clone, Copy, Debug, PartialEq, Eq)]
 pub struct Refusal {
     pub number: u32,
@@ -90,7 +90,7 @@ fn planned(bytes: &[u8], tables: &mut Tables) -> Result<PlanFile, Refusal> {
     Ok(plan)
 }
 
-/// The plan reader: the sheet, 11, the leg tables and landing sets, the file, the marks, 17, 18, 19.
+/// The plan reader: the sheet, 11, the leg tables and landing sets, the file, the marks, 17, 20, 18, 19.
 fn accepted(bytes: &[u8], file: &[u8], tables: &mut Tables) -> Result<PlanFile, Refusal> {
     let sheet = sheet::read(bytes)?;
     if !has_room(&sheet, tables) {
@@ -128,5 +128,7 @@ fn load(sheet: &Sheet, tables: &mut Tables) {
         *end = leg.end;
         *price = leg.price;
     }
-    tables.landings[..sheet.sites].copy_from_slice(&sheet.landings);
+    for (entry, value) in tables.landings.iter_mut().zip(sheet.landing_entries()) {
+        *entry = value;
+    }
 }

@@ -1,4 +1,4 @@
-//! The plan file: its writing, its reading (14, 15, 16), the sites that its legs reach, and its judging (17, 18, 19).
+//! The plan file: its writing, its reading (14, 15, 16), the sites that its legs reach, and its judging (17, 20, 18, 19).
 
 use super::groups::Groups;
 use super::sheet::Sheet;
@@ -101,9 +101,12 @@ pub fn reached(sheet: &Sheet, plan: &PlanFile) -> Vec<bool> {
     reached
 }
 
-/// 17, 18 and 19, in this order.
+/// 17, 20, 18 and 19, in this order.
 pub fn judge(sheet: &Sheet, plan: &PlanFile, reached: &[bool]) -> Result<(), Refusal> {
     let held = held_sites(sheet, plan, reached).ok_or(Refusal::at(17, 0))?;
+    if !sheet.senders[plan.root] {
+        return Err(Refusal::at(20, 0));
+    }
     let heard = held.iter().fold(0, |all, &site| all | sheet.landings[site]);
     if usize::from(heard) != sheet.full() {
         return Err(Refusal::at(18, 0));

@@ -1,4 +1,4 @@
-//! The reading of a sheet: its numbers, legs and landing sets, or the first refusal of 1 to 10 with its place.
+//! The reading of a sheet: its numbers, legs, landing sets and senders, or the first refusal of 1 to 10 with its place.
 
 use super::Refusal;
 
@@ -6,6 +6,9 @@ const MAX_SITES: usize = 1024;
 const MAX_STATIONS: usize = 10;
 const MAX_LEGS: usize = 8192;
 const MAX_PRICE: u32 = 1_000_000;
+
+/// What is added to the landing entry of a sender.
+pub const FLAG: u16 = 1024;
 
 /// A one-way link with its price.
 #[derive(Clone, Copy, Debug, PartialEq, Eq)]
@@ -15,19 +18,26 @@ pub struct Leg {
     pub price: u32,
 }
 
-/// A good sheet: numbers of sites and stations, the legs in order, each site's set of stations.
+/// A good sheet: numbers of sites and stations, the legs in order, each site's set of stations, and whether it may send.
 #[derive(Clone, Debug, PartialEq, Eq)]
 pub struct Sheet {
     pub sites: usize,
     pub stations: usize,
     pub legs: Vec<Leg>,
     pub landings: Vec<u16>,
+    pub senders: Vec<bool>,
 }
 
 impl Sheet {
     /// The set of all stations.
     pub fn full(&self) -> usize {
         (1 << self.stations) - 1
+    }
+
+    /// The entry of each site in the landing table: its set of stations, and the flag where it may send.
+    pub fn landing_entries(&self) -> impl Iterator<Item = u16> + '_ {
+        let sites = self.landings.iter().zip(&self.senders);
+        sites.map(|(&heard, &may_send)| if may_send { heard + FLAG } else { heard })
     }
 }
 
@@ -49,6 +59,7 @@ pub fn read(bytes: &[u8]) -> Result<Sheet, Refusal> {
             b"LK" => sheet.take_link(fields(rest, 8, place)?, false, place)?,
             b"BK" => sheet.take_link(fields(rest, 8, place)?, true, place)?,
             b"ST" => sheet.take_landing(fields(rest, 3, place)?, place)?,
+            b"SR" => sheet.take_sender(fields(rest, 2, place)?, place)?,
             b"ED" => return sheet.finish(&rest[2..], place),
             _ => return Err(Refusal::at(2, place)),
         };
@@ -77,6 +88,7 @@ fn read_head(bytes: &[u8]) -> Result<Sheet, Refusal> {
         stations,
         legs: Vec::new(),
         landings: vec![0; sites],
+        senders: vec![false; sites],
     })
 }
 
@@ -124,14 +136,24 @@ impl Sheet {
         Ok(5)
     }
 
-    /// Ends the reading at an `ED` that stands at `place`, with the bytes that follow it.
-    fn finish(self, following: &[u8], place: usize) -> Result<Sheet, Refusal> {
+    /// Takes the field of `SR`. Gives the record's length.
+    fn take_sender(&mut self, field: &[u8], place: usize) -> Result<usize, Refusal> {
+        let sender = self.senders.get_mut(number(field) as usize);
+        *sender.ok_or(Refusal::at(4, place))? = true;
+        Ok(4)
+    }
+
+    /// Ends the reading at an `ED` that stands at `place`, with the bytes that follow it. Without an `SR` every site is a sender.
+    fn finish(mut self, following: &[u8], place: usize) -> Result<Sheet, Refusal> {
         if !following.is_empty() {
             return Err(Refusal::at(9, place + 2));
         }
         let heard = self.landings.iter().fold(0, |all, &set| all | set);
         if usize::from(heard) != self.full() {
             return Err(Refusal::at(10, place));
+        }
+        if !self.senders.contains(&true) {
+            self.senders.fill(true);
         }
         Ok(self)
     }

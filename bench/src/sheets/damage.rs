@@ -49,7 +49,14 @@ fn insert(random: &mut Random, bytes: &mut Vec<u8>, place: usize) {
 
 /// Appends a byte, a mark or a whole record.
 fn append(random: &mut Random, bytes: &mut Vec<u8>) {
-    let tails: [&[u8]; 5] = [b"\0", b"E", b"ED", b"ST\0\0\0", b"LK\0\0\0\x01\0\0\0\x05"];
+    let tails: [&[u8]; 6] = [
+        b"\0",
+        b"E",
+        b"ED",
+        b"ST\0\0\0",
+        b"SR\0\0",
+        b"LK\0\0\0\x01\0\0\0\x05",
+    ];
     bytes.extend_from_slice(random.pick(&tails));
 }
 
@@ -82,7 +89,7 @@ fn cut(random: &mut Random, piece: &mut Vec<u8>) {
 /// Gives a record another mark, perhaps a strange one.
 fn change_mark(random: &mut Random, piece: &mut [u8]) {
     let marks = [
-        b"HD", b"LK", b"BK", b"ST", b"ED", b"lk", b"KL", b"PN", b"LG",
+        b"HD", b"LK", b"BK", b"ST", b"SR", b"ED", b"lk", b"KL", b"sr", b"RS", b"PN", b"LG",
     ];
     if let Some(mark) = piece.get_mut(..2) {
         let chosen = random.pick(&marks);
@@ -96,6 +103,7 @@ fn set_limit(random: &mut Random, sheet: &Sheet, piece: &mut [u8]) {
         (Some(b"HD"), 5) => set_head_limit(random, piece),
         (Some(b"LK" | b"BK"), 10) => set_link_limit(random, sheet, piece),
         (Some(b"ST"), 5) => set_landing_limit(random, sheet, piece),
+        (Some(b"SR"), 4) => piece[2..].copy_from_slice(&site_limit(random, sheet)),
         _ => {}
     }
 }

@@ -1,4 +1,4 @@
-//! Large sheets of set shapes: random, a grid, a chain, a sheet at every limit, and a plan file that is long to read.
+//! Large sheets of set shapes: random, a grid, a chain, a sheet at every limit, one with few senders; and a plan file that is long to read.
 
 use super::{PlanFile, Random, Record, Sheet};
 
@@ -80,7 +80,7 @@ fn arrange(random: &mut Random, order: Order, legs: &mut [Record]) {
 fn end_of(leg: &Record) -> u16 {
     match *leg {
         Record::Link { to, .. } | Record::Both { to, .. } => to,
-        Record::Landing { .. } => unreachable!("a landing is no leg"),
+        Record::Landing { .. } | Record::Sender { .. } => unreachable!("this record is no leg"),
     }
 }
 
@@ -155,7 +155,7 @@ fn chain_landing(shape: Chain, station: u8) -> u16 {
     }
 }
 
-/// A sheet at every limit: 1,024 sites, 10 stations heard at each of them, 8,192 legs. It has 133,127 bytes.
+/// A sheet at every limit: 1,024 sites, each a sender by its own `SR`, 10 stations heard at each of them, 8,192 legs. It has 137,223 bytes.
 pub fn filled_sheet(seed: u64) -> Sheet {
     let mut sheet = random_sheet(seed, 1024, 10, 8192, 1_000_000);
     sheet.records.truncate(8192);
@@ -163,6 +163,20 @@ pub fn filled_sheet(seed: u64) -> Sheet {
         sheet
             .records
             .extend((0..10).map(|station| Record::Landing { station, site }));
+    }
+    sheet
+        .records
+        .extend((0..1024).map(|site| Record::Sender { site }));
+    sheet
+}
+
+/// The sheet with `SR` for so many drawn sites, some perhaps twice, each record at a drawn place.
+pub fn licensed(seed: u64, mut sheet: Sheet, senders: usize) -> Sheet {
+    let mut random = Random::new(seed);
+    for _ in 0..senders {
+        let site = random.below(usize::from(sheet.sites)) as u16;
+        let place = random.below(sheet.records.len() + 1);
+        sheet.records.insert(place, Record::Sender { site });
     }
     sheet
 }

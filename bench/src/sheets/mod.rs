@@ -9,7 +9,7 @@ mod small;
 
 pub use damage::damaged;
 pub use files::{leg_records, varied_file, PlanFile};
-pub use large::{bad_reading, chain, filled_sheet, grid, random_sheet, Chain, Order};
+pub use large::{bad_reading, chain, filled_sheet, grid, licensed, random_sheet, Chain, Order};
 pub use questions::{question, random_table, MadeTable};
 pub use random::Random;
 pub use small::{small_sheet, tiny_sheet, wide_sheet};
@@ -23,6 +23,8 @@ pub enum Record {
     Both { from: u16, to: u16, price: u32 },
     /// `ST`: a station can be heard at a site.
     Landing { station: u8, site: u16 },
+    /// `SR`: a site may send.
+    Sender { site: u16 },
 }
 
 impl Record {
@@ -34,6 +36,7 @@ impl Record {
             Record::Landing { station, site } => {
                 [&b"ST"[..], &[station], &site.to_be_bytes()].concat()
             }
+            Record::Sender { site } => [&b"SR"[..], &site.to_be_bytes()].concat(),
         }
     }
 }
@@ -93,6 +96,20 @@ impl Sheet {
         self
     }
 
+    /// Adds `SR`.
+    pub fn sender(mut self, site: u16) -> Sheet {
+        self.records.push(Record::Sender { site });
+        self
+    }
+
+    /// The sheet without its `SR` records, so that every site is a sender.
+    pub fn without_senders(&self) -> Sheet {
+        let mut sheet = self.clone();
+        let is_sender = |record: &Record| matches!(record, Record::Sender { .. });
+        sheet.records.retain(|record| !is_sender(record));
+        sheet
+    }
+
     /// The bytes of each record, `HD` first and `ED` last.
     pub fn pieces(&self) -> Vec<Vec<u8>> {
         let head = [&b"HD"[..], &self.sites.to_be_bytes(), &[self.stations]].concat();
@@ -121,7 +138,7 @@ impl Sheet {
                         price,
                     });
                 }
-                Record::Landing { .. } => {}
+                Record::Landing { .. } | Record::Sender { .. } => {}
             }
         }
         legs

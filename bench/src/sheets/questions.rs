@@ -1,15 +1,17 @@
-//! Cost tables of random cells, and questions about them: numbers within, at and past the limits, in tables of any length.
+//! Cost tables of random cells and landing entries, and questions about them: numbers within, at and past the limits, in tables of any
+//! length.
 
 use super::Random;
-use uldhvamm::{CostTable, Question};
+use uldhvamm::{CostTable, Question, SENDER_FLAG};
 
 /// "None".
 const NONE: u32 = u32::MAX;
 
-/// A cost table that has cells of its own. It is no finished one, and may be short or have a bad head.
+/// A cost table that has cells and landing entries of its own. It is no finished one, and may be short or have a bad head.
 #[derive(Clone, Debug)]
 pub struct MadeTable {
     pub cells: Vec<u32>,
+    pub landings: Vec<u16>,
     pub sites: u32,
     pub stations: u32,
 }
@@ -19,21 +21,25 @@ impl MadeTable {
     pub fn lend(&self) -> CostTable<'_> {
         CostTable {
             cells: &self.cells,
+            landings: &self.landings,
             sites: self.sites,
             stations: self.stations,
         }
     }
 }
 
-/// A table of random cells: mostly a small one that is long enough, else a large one, a short one, or one with a bad head.
+/// A table of random cells and landing entries: mostly a small one that is long enough, else a large one, a short one, or one with a bad
+/// head.
 pub fn random_table(random: &mut Random) -> MadeTable {
-    let (sites, stations, length) = match random.below(20) {
+    let (sites, stations, cell_count) = match random.below(20) {
         0..=3 => bad_head(random),
         4 => with_length(random, large_head),
         _ => with_length(random, small_head),
     };
+    let entry_count = varied_length(random, (sites as usize).clamp(1, 1024));
     MadeTable {
-        cells: cells(random, length),
+        cells: cells(random, cell_count),
+        landings: landings(random, entry_count),
         sites,
         stations,
     }
@@ -58,15 +64,19 @@ fn large_head(random: &mut Random) -> (u32, u32) {
 /// A head within the limits and a number of cells: just enough, or more, or fewer.
 fn with_length(random: &mut Random, head: fn(&mut Random) -> (u32, u32)) -> (u32, u32, usize) {
     let (sites, stations) = head(random);
-    let needed = (sites as usize) << stations;
-    let length = match random.below(8) {
+    let length = varied_length(random, (sites as usize) << stations);
+    (sites, stations, length)
+}
+
+/// A length around the one that is needed, which is not 0: just enough, or more, or fewer.
+fn varied_length(random: &mut Random, needed: usize) -> usize {
+    match random.below(8) {
         0 => needed - 1,
         1 => random.below(needed),
         2 => needed + 1,
         3 => needed + random.between(2, 40),
         _ => needed,
-    };
-    (sites, stations, length)
+    }
 }
 
 /// A head with one or both numbers past the limits, and a number of cells.
@@ -108,6 +118,22 @@ fn cells(random: &mut Random, length: usize) -> Vec<u32> {
         _ => random.pick(kind),
     };
     (0..length).map(|_| cell()).collect()
+}
+
+/// So many landing entries: all flagged, none, or some, for the whole table, with any other bits or with bits of stations only.
+fn landings(random: &mut Random, length: usize) -> Vec<u16> {
+    let flags = random.pick(&[
+        &[true][..],
+        &[true, false],
+        &[true, false, false, false],
+        &[false],
+    ]);
+    let others = random.pick(&[!SENDER_FLAG, SENDER_FLAG - 1, 0]);
+    let mut entry = || match random.pick(flags) {
+        true => random.bits() as u16 & others | SENDER_FLAG,
+        false => random.bits() as u16 & others,
+    };
+    (0..length).map(|_| entry()).collect()
 }
 
 /// A question about a table, with numbers that are mostly within its limits.

@@ -1,4 +1,5 @@
-//! Small random sheets, all of them good: many equal prices, `BK`, parallel legs, several landings, repeats of `ST`.
+//! Small random sheets, all of them good: many equal prices, `BK`, parallel legs, several landings, no `SR` or those of one site, several
+//! or all, repeats of `ST` and `SR`.
 
 use super::{Random, Record, Sheet};
 
@@ -33,7 +34,7 @@ pub fn wide_sheet(random: &mut Random) -> Sheet {
 
 /// Whether a record is `LK` or `BK`.
 fn is_link(record: &Record) -> bool {
-    !matches!(record, Record::Landing { .. })
+    matches!(record, Record::Link { .. } | Record::Both { .. })
 }
 
 /// A good sheet with as many link records as asked for, if it has two sites or more. The records are in random order.
@@ -43,6 +44,7 @@ fn sheet_of(random: &mut Random, sites: usize, stations: usize, links: usize) ->
         add_links(random, &mut sheet, links);
     }
     add_landings(random, &mut sheet);
+    add_senders(random, &mut sheet);
     random.shuffle(&mut sheet.records);
     sheet
 }
@@ -92,5 +94,23 @@ fn add_landings(random: &mut Random, sheet: &mut Sheet) {
             let record = Record::Landing { station, site };
             sheet.records.extend(std::iter::repeat_n(record, times));
         }
+    }
+}
+
+/// Adds `SR` for one site, for several or for all, and repeats some. Half of the sheets get none.
+fn add_senders(random: &mut Random, sheet: &mut Sheet) {
+    let sites = usize::from(sheet.sites);
+    let senders = match random.below(8) {
+        0..=3 => 0,
+        4 | 5 => 1,
+        6 => random.between(1, sites),
+        _ => sites,
+    };
+    let mut order: Vec<u16> = (0..sheet.sites).collect();
+    random.shuffle(&mut order);
+    for &site in &order[..senders] {
+        let times = if random.once_in(8) { 2 } else { 1 };
+        let record = Record::Sender { site };
+        sheet.records.extend(std::iter::repeat_n(record, times));
     }
 }

@@ -1,6 +1,6 @@
 //! A family of small sheets from a seeded generator: 1 to 4 sites, 1 to 3 stations, 0 to 6 legs, prices from 1 to 3 and 1,000,000; `LK`,
 //! `BK` and `ST` in any order, with ties, parallel legs, several landings of a station, the same landing twice, and stations that no root
-//! reaches together. Every sheet is a good one.
+//! reaches together. Each sheet is taken without `SR` and with the `SR` of every set of its sites. Every sheet is a good one.
 
 use uldhvamm_bench::sheets::{Leg, Record, Sheet};
 
@@ -44,6 +44,33 @@ impl Generator {
             }
         }
         sheet
+    }
+
+    /// A set of sites, in half of the draws the empty one.
+    pub fn sites(&mut self, sites: u16) -> u32 {
+        let number = self.next();
+        let sets = (1 << sites) - 1;
+        match number % 2 {
+            0 => 0,
+            _ => 1 + (number / 2 % sets) as u32,
+        }
+    }
+
+    /// The sheet with `SR` for the sites of a set, in a quarter of the draws twice, each record at a drawn place.
+    pub fn licensed(&mut self, sheet: &Sheet, senders: u32) -> Sheet {
+        let mut licensed = sheet.clone();
+        for site in (0..sheet.sites).filter(|site| senders >> site & 1 == 1) {
+            let times = match self.next() % 4 {
+                0 => 2,
+                _ => 1,
+            };
+            for _ in 0..times {
+                let places = licensed.records.len() as u64 + 1;
+                let place = (self.next() % places) as usize;
+                licensed.records.insert(place, Record::Sender { site });
+            }
+        }
+        licensed
     }
 }
 
@@ -117,4 +144,11 @@ pub fn has_repeat(sheet: &Sheet) -> bool {
         let sites: Vec<_> = landings(sheet, station).collect();
         (1..sites.len()).any(|place| sites[..place].contains(&sites[place]))
     })
+}
+
+/// Whether an `SR` stands twice.
+pub fn has_sender_repeat(sheet: &Sheet) -> bool {
+    let is_sender = |record: &&Record| matches!(record, Record::Sender { .. });
+    let senders: Vec<_> = sheet.records.iter().filter(is_sender).collect();
+    (1..senders.len()).any(|place| senders[..place].contains(&senders[place]))
 }

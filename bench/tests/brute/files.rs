@@ -67,7 +67,22 @@ impl Reading<'_> {
         }
     }
 
-    /// What is due for a file with this root, total and list, by document 01's order of tests.
+    /// Tries, from each site that reaches every station, a sender or not, the file of the plan by the rule over finished cells.
+    pub fn try_roots(&self, cells: &[u32], counts: &mut Counts) {
+        let (small, full) = (self.small, self.small.full());
+        for root in 0..small.sites {
+            let total = cells[(root << small.stations) + full];
+            if total != u32::MAX {
+                let mut list = Vec::new();
+                small.lay_out(cells, root, full, &mut list);
+                let file = file_of(root, total, &list);
+                let number = self.try_file(&file, self.due(root, total, &list), counts);
+                assert_eq!(number, if small.may_send(root) { 0 } else { 20 });
+            }
+        }
+    }
+
+    /// What is due for a file with this root, total and list, by the order of tests of documents 01 and 02.
     pub fn due(&self, root: usize, total: u32, list: &[usize]) -> Left {
         let small = self.small;
         if root >= small.sites {
@@ -79,6 +94,7 @@ impl Reading<'_> {
         let marked = self.filled.clone().marked(small, small.reached(root, list));
         match small.held(root, list) {
             None => marked.refused(17, 0),
+            Some(_) if !small.may_send(root) => marked.refused(20, 0),
             Some(sites) if small.heard(sites) != small.full() => marked.refused(18, 0),
             Some(_) if small.sum(list) != total => marked.refused(19, 0),
             Some(_) => marked.planned(root, total, list.len()),

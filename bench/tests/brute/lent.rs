@@ -1,6 +1,6 @@
 //! What is lent to a call on a small sheet: each table has two entries more than any sheet of the family needs.
 
-use uldhvamm::{plan_lent, read_plan_lent, Lent};
+use uldhvamm::{plan_lent, read_plan_lent, CostTable, Lent};
 
 use crate::trees::Small;
 
@@ -18,14 +18,14 @@ pub struct Left {
     pub plan: [u8; 24],
 }
 
-/// What is lent, before a call: values that no sheet and no plan has.
+/// What is lent, before a call: values that no sheet and no plan has. The landing entries have every bit, a sender's too.
 pub const BEFORE: Left = Left {
     number: 0,
     answer: [77; 4],
     starts: [60_001; 8],
     ends: [60_002; 8],
     prices: [4_000_000_003; 8],
-    landings: [60_004; 6],
+    landings: [65_535; 6],
     cells: [4_000_000_005; 34],
     marks: [9; 6],
     plan: [238; 24],
@@ -62,6 +62,16 @@ impl Left {
         }
     }
 
+    /// The table that the engine has left, for questions.
+    pub fn table(&self, small: &Small) -> CostTable<'_> {
+        CostTable {
+            cells: &self.cells,
+            landings: &self.landings,
+            sites: small.sites as u32,
+            stations: small.stations as u32,
+        }
+    }
+
     /// A refusal, with its place.
     pub fn refused(mut self, number: u32, place: usize) -> Left {
         self.number = number;
@@ -75,14 +85,16 @@ impl Left {
         self
     }
 
-    /// The leg and landing tables filled.
+    /// The leg and landing tables filled; a landing entry is the site's set of stations, and 1,024 more where the site is a sender.
     pub fn filled(mut self, small: &Small) -> Left {
         for (place, leg) in small.legs.iter().enumerate() {
             self.starts[place] = leg.from;
             self.ends[place] = leg.to;
             self.prices[place] = leg.price;
         }
-        self.landings[..small.sites].copy_from_slice(&small.landings);
+        for (site, &heard) in small.landings.iter().enumerate() {
+            self.landings[site] = heard + if small.may_send(site) { 1024 } else { 0 };
+        }
         self
     }
 

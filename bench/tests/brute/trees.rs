@@ -1,24 +1,35 @@
-//! The trees of a small sheet, after document 01: what a list of legs is with a root, the cells by a trial of every set of legs, and the
-//! plan by the rule over these cells.
+//! The trees of a small sheet, after documents 01 and 02: what a list of legs is with a root, the cells by a trial of every set of legs,
+//! the least total of a tree whose root is a sender, and the plan by the rule over these cells.
 //!
 //! A set of sites or of stations is a number: site or station i is worth 2^i.
 
 use uldhvamm_bench::sheets::{Leg, Record, Sheet};
 
-/// A sheet with its legs and each site's stations.
+/// A sheet with its legs, each site's stations, and the set of its senders.
 pub struct Small {
     pub sites: usize,
     pub stations: usize,
     pub legs: Vec<Leg>,
     pub landings: Vec<u16>,
+    pub senders: u32,
+}
+
+/// A tree: its root, the stations that it hears, and its total.
+pub struct Tree {
+    pub root: usize,
+    pub heard: usize,
+    pub total: u32,
 }
 
 impl Small {
     pub fn new(sheet: &Sheet) -> Small {
         let mut landings = vec![0; usize::from(sheet.sites)];
+        let mut senders = 0;
         for record in &sheet.records {
-            if let Record::Landing { station, site } = *record {
-                landings[usize::from(site)] |= 1 << station;
+            match *record {
+                Record::Landing { station, site } => landings[usize::from(site)] |= 1 << station,
+                Record::Sender { site } => senders |= 1 << site,
+                Record::Link { .. } | Record::Both { .. } => {}
             }
         }
         Small {
@@ -26,7 +37,13 @@ impl Small {
             stations: usize::from(sheet.stations),
             legs: sheet.legs(),
             landings,
+            senders: if senders == 0 { u32::MAX } else { senders },
         }
+    }
+
+    /// Whether a site is a sender.
+    pub fn may_send(&self, site: usize) -> bool {
+        self.senders >> site & 1 == 1
     }
 
     /// The set of all stations.
@@ -75,26 +92,38 @@ impl Small {
         list.iter().map(|&leg| self.legs[leg].price).sum()
     }
 
-    /// Every tree, in any order: its root, what it hears, and its total.
-    pub fn trees(&self) -> Vec<(usize, usize, u32)> {
+    /// Every tree, whatever its root, in any order.
+    pub fn trees(&self) -> Vec<Tree> {
         let mut trees = Vec::new();
         for chosen in 0..1_u32 << self.legs.len() {
             let legs = 0..self.legs.len();
             let list: Vec<usize> = legs.filter(|leg| chosen >> leg & 1 == 1).collect();
             for root in 0..self.sites {
                 if let Some(sites) = self.held(root, &list) {
-                    trees.push((root, self.heard(sites), self.sum(&list)));
+                    trees.push(Tree {
+                        root,
+                        heard: self.heard(sites),
+                        total: self.sum(&list),
+                    });
                 }
             }
         }
         trees
     }
 
-    /// The cells: of each root and set the least total of a tree that hears the set.
-    pub fn cells(&self, trees: &[(usize, usize, u32)]) -> Vec<u32> {
+    /// The trees that hear a set of stations and whose root is a sender, those of the least total.
+    pub fn best<'a>(&self, trees: &'a [Tree], set: usize) -> Vec<&'a Tree> {
+        let sent = |tree: &&Tree| self.may_send(tree.root) && set & !tree.heard == 0;
+        let least = trees.iter().filter(sent).map(|tree| tree.total).min();
+        let cheapest = |tree: &&Tree| sent(tree) && Some(tree.total) == least;
+        trees.iter().filter(cheapest).collect()
+    }
+
+    /// The cells: of each root, a sender or not, and of each set the least total of a tree that hears the set.
+    pub fn cells(&self, trees: &[Tree]) -> Vec<u32> {
         let sets = 1 << self.stations;
         let mut cells = vec![u32::MAX; self.sites * sets];
-        for &(root, heard, total) in trees {
+        for &Tree { root, heard, total } in trees {
             for (set, cell) in cells[root * sets..][..sets].iter_mut().enumerate() {
                 if set & !heard == 0 {
                     *cell = (*cell).min(total);

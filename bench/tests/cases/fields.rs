@@ -1,4 +1,4 @@
-//! What stands after the word of a directive: names, numbers and cells.
+//! What stands after the word of a directive: names, numbers, cells and landing entries.
 
 use std::str::FromStr;
 use uldhvamm::{Lengths, NO_COST};
@@ -55,16 +55,28 @@ pub fn lengths(text: &str) -> Result<Lengths, String> {
     })
 }
 
-/// Cells: values, `none`, and values with `*` and how many times they stand there.
+/// Cells: values and `none`.
 pub fn cells(text: &str) -> Result<Vec<u32>, String> {
-    let mut cells = Vec::new();
+    entries(text, |word| match word {
+        "none" => Ok(NO_COST),
+        _ => number(word),
+    })
+}
+
+/// Landing entries: values.
+pub fn landings(text: &str) -> Result<Vec<u16>, String> {
+    entries(text, number)
+}
+
+/// Words, each with the value that it stands for, and words with `*` and how many times they stand there.
+fn entries<T: Clone>(
+    text: &str,
+    value: impl Fn(&str) -> Result<T, String>,
+) -> Result<Vec<T>, String> {
+    let mut entries = Vec::new();
     for word in text.split_whitespace() {
-        let (value, times) = word.split_once('*').unwrap_or((word, "1"));
-        let value = match value {
-            "none" => NO_COST,
-            _ => number(value)?,
-        };
-        cells.extend(std::iter::repeat_n(value, number(times)?));
+        let (word, times) = word.split_once('*').unwrap_or((word, "1"));
+        entries.extend(std::iter::repeat_n(value(word)?, number(times)?));
     }
-    Ok(cells)
+    Ok(entries)
 }

@@ -18,8 +18,10 @@
 //!
 //! `load`, `cuts` and `plan` with `NAME: BYTES` are `sheet NAME: BYTES` and the directive.
 //!
-//! Questions about cells, those of the last `cells` or `plan` line:
+//! Questions about cells, those of the last `cells` or `plan` line, and, for best senders, about landing entries, those of the last
+//! `landings` or `plan` line:
 //! - `cells VALUE ..`: `VALUE*N` is the value N times, `none` is 4294967295.
+//! - `landings VALUE ..`: the landing entries, in the same way; a sender's has the bit worth 1024.
 //! - `cell NAME: SITES STATIONS SITE SUBSET`: the cell of a site and a subset.
 //! - `sender NAME: SITES STATIONS SUBSET`: the best sender of a subset. Of several the lowest is printed.
 //! - `every NAME: SITES STATIONS`: subset after subset, the cell of each site and the best sender.

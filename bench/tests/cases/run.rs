@@ -1,6 +1,6 @@
 //! Runs the directives of a data file, line after line, and gives the output.
 
-use crate::fields::{cells, lengths, named, named_numbers, named_text, number};
+use crate::fields::{cells, landings, lengths, named, named_numbers, named_text, number};
 use crate::notation::bytes;
 use crate::planner::Planner;
 use crate::text;
@@ -42,6 +42,7 @@ struct Runner {
     sheets: BTreeMap<String, Vec<u8>>,
     sheet: Vec<u8>,
     cells: Vec<u32>,
+    landings: Vec<u16>,
     names: BTreeSet<String>,
     output: String,
 }
@@ -56,6 +57,7 @@ impl Runner {
             sheets: BTreeMap::new(),
             sheet: Vec::new(),
             cells: Vec::new(),
+            landings: Vec::new(),
             names: BTreeSet::new(),
             output: String::new(),
         }
@@ -74,6 +76,7 @@ impl Runner {
             "read" => self.read(rest),
             "plan" => self.plan(rest),
             "cells" => self.set_cells(rest),
+            "landings" => self.set_landings(rest),
             "cell" => self.cell(rest),
             "sender" => self.sender(rest),
             "every" => self.every(rest),
@@ -106,6 +109,12 @@ impl Runner {
     /// `cells`.
     fn set_cells(&mut self, rest: &str) -> Result<(), String> {
         self.cells = cells(rest)?;
+        Ok(())
+    }
+
+    /// `landings`.
+    fn set_landings(&mut self, rest: &str) -> Result<(), String> {
+        self.landings = landings(rest)?;
         Ok(())
     }
 
@@ -178,23 +187,24 @@ impl Runner {
         self.print(name, &printed)
     }
 
-    /// `plan`, which leaves its cells for the questions.
+    /// `plan`, which leaves its cells and landing entries for the questions.
     fn plan(&mut self, rest: &str) -> Result<(), String> {
         let name = self.take_sheet(rest)?;
         let mut tables = self.tables();
         let answer = self.planner.plan(&self.sheet, &mut tables, self.lent);
         let printed = text::answer("planned", answer) + &text::engine_tables(&tables);
         self.cells = tables.cells;
+        self.landings = tables.landings;
         self.print(name, &printed)
     }
 
-    /// Tables of values that no sheet and no plan has.
+    /// Tables of values that no sheet and no plan has. The landing entries have every bit, a sender's too.
     fn tables(&self) -> Tables {
         Tables {
             starts: vec![60_001; self.lengths.starts],
             ends: vec![60_002; self.lengths.ends],
             prices: vec![4_000_000_003; self.lengths.prices],
-            landings: vec![60_004; self.lengths.landings],
+            landings: vec![65_535; self.lengths.landings],
             cells: vec![self.fill; self.lengths.cells],
             marks: vec![MARK; self.lengths.marks],
             plan: vec![238; self.lengths.plan],
@@ -243,11 +253,12 @@ impl Runner {
         self.ask(&name, head, Question::BestSender { subset })
     }
 
-    /// Asks about the cells, as a cost table of so many sites and stations.
+    /// Asks about the cells and landing entries, as a cost table of so many sites and stations.
     fn ask(&mut self, name: &str, head: [u32; 2], question: Question) -> Result<(), String> {
         let [sites, stations] = head;
         let table = CostTable {
             cells: &self.cells,
+            landings: &self.landings,
             sites,
             stations,
         };
