@@ -46,10 +46,10 @@ calls n k G left entries means = record {
 }
 
 -- after a call of the engine: its arguments a, of which the first is the sheet, its answer r, and what it left e, of which the fifth is the landing
--- entries and the sixth the cells
-pub enquired-calls : (κs : Lfts 8) (a : Dens κs plan-kinds.ps) (r : Answer) (e : AtExit (endedOf 8 plan-kinds.ps plan-kinds.r) κs)
+-- entries and the eighth the cells
+pub enquired-calls : (κs : Lfts 10) (a : Dens κs plan-kinds.ps) (r : Answer) (e : AtExit (endedOf 10 plan-kinds.ps plan-kinds.r) κs)
     → plan-sheet.Learnt κs a r e → Bytes (now (a .0)) → Finished (stated r)
-    → GoodWith (now (a .0)) (λ n k records. CallsMean n k (graphOf n k records) (now (e .1 .1 .1 .1 .1 .0)) (now (e .1 .1 .1 .1 .0)))
+    → GoodWith (now (a .0)) (λ n k records. CallsMean n k (graphOf n k records) (now (e .1 .1 .1 .1 .1 .1 .1 .0)) (now (e .1 .1 .1 .1 .0)))
 enquired-calls κs a r e learnt bytes finished =
     let g = enquired (now (a .0)) bytes _ _ (stated r) (learnt .1 .0) finished in
     record { n = g .n; k = g .k; records = g .records; good-sheet = g .good-sheet; holds = calls _ _ _ _ _ (g .holds) }

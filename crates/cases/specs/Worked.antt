@@ -1,17 +1,19 @@
 -- Document 01's cases A to L ("The desk program and worked sheets"): "For A to L, one proposition settles the definitions' answers together".
 -- The engine's answers to the sheets A to J and the plan reader's to the files of A, K and L, with what was lent as it is afterwards, by
 -- computation. None of these sheets has an `SR`, so each of their landing entries has the flag, 1,024. The same of the sheets M to Q, which name
--- senders (document 02, W-201), and of files whose root is no sender.
+-- senders (document 02, W-201), and of files whose root is no sender; and the index of the legs (W-202), of the sheet R and of tables that are too short
+-- for it.
 -- Assumes nothing.
 use Prim.Native.Nat.{ℕ}
 use mathlib.Core.Path.{_≡_, refl}
 use mathlib.Core.Option.{Option, none, some}
 use mathlib.Core.List.{List, [], _∷_}
 use lib.ListN.{length}
-use Rattle.answer.specs.Stated.{plan, refused, ofSheet, ofSearch, ofPlanFile}
+use Rattle.answer.specs.Stated.{plan, refused, ofSheet, ofTables, ofSearch, ofPlanFile}
 use Rattle.sheet.specs.Verdict.{Verdict, good, bad, verdict, readFor}
-use Rattle.sheet.specs.Worked.{sheetA, sheetB, sheetC, sheetD, sheetE, sheetF, sheetG, sheetH, sheetI, sheetJ, sheetM, sheetN, sheetO, sheetP, sheetQ}
+use Rattle.sheet.specs.Worked.{sheetA, sheetB, sheetC, sheetD, sheetE, sheetF, sheetG, sheetH, sheetI, sheetJ, sheetM, sheetN, sheetO, sheetP, sheetQ, sheetR}
 use Rattle.lent_tables.specs.SheetTables.{sheetTables}
+use Rattle.lent_tables.specs.IndexTables.{IndexTables, indexTables}
 use Rattle.record_tables.specs.Loaded.{loaded}
 use Rattle.network.specs.Network.{graphOf}
 use Rattle.mission.specs.Runs.{ReaderTables, readerTables, EngineTables, engineTables, run}
@@ -29,6 +31,7 @@ abbrev pub lent : EngineTables
 lent =
     engineTables
     (sheetTables (71 ∷ 71 ∷ 71 ∷ 71 ∷ 71 ∷ 71 ∷ []) (72 ∷ 72 ∷ 72 ∷ 72 ∷ 72 ∷ 72 ∷ []) (73 ∷ 73 ∷ 73 ∷ 73 ∷ 73 ∷ 73 ∷ []) (1_098 ∷ 1_098 ∷ 1_098 ∷ 1_098 ∷ 1_098 ∷ []))
+    (indexTables (77 ∷ 77 ∷ 77 ∷ 77 ∷ 77 ∷ 77 ∷ []) (78 ∷ 78 ∷ 78 ∷ 78 ∷ 78 ∷ 78 ∷ []))
     (
     75 ∷ 75 ∷ 75 ∷ 75 ∷ 75 ∷ 75 ∷ 75 ∷ 75 ∷
     75 ∷ 75 ∷ 75 ∷ 75 ∷ 75 ∷ 75 ∷ 75 ∷ 75 ∷
@@ -43,7 +46,7 @@ lent =
     0xEE ∷ 0xEE ∷ 0xEE ∷ 0xEE ∷ []
     )
 
--- all of these but the cells and the buffer
+-- all of these but the index, the cells and the buffer
 abbrev pub lentToReader : ReaderTables
 lentToReader = readerTables (lent .tables) (lent .marks)
 
@@ -83,6 +86,7 @@ pub settled :
     ≡ run (plan 0 10 3)
     (engineTables
     (sheetTables (0 ∷ 1 ∷ 1 ∷ 0 ∷ 0 ∷ 71 ∷ []) (1 ∷ 2 ∷ 3 ∷ 2 ∷ 3 ∷ 72 ∷ []) (4 ∷ 3 ∷ 3 ∷ 5 ∷ 6 ∷ 73 ∷ []) (1_028 ∷ 1_024 ∷ 1_025 ∷ 1_026 ∷ 1_098 ∷ []))
+    (indexTables (0 ∷ 1 ∷ 3 ∷ 2 ∷ 4 ∷ 77 ∷ []) (0 ∷ 0 ∷ 1 ∷ 3 ∷ 5 ∷ 78 ∷ []))
     (
     0 ∷ 5 ∷ 6 ∷ 10 ∷ 0 ∷ 5 ∷ 6 ∷ 10 ∷
     0 ∷ 3 ∷ 3 ∷ 6 ∷ 4_294_967_295 ∷ 4_294_967_295 ∷ 4_294_967_295 ∷ 4_294_967_295 ∷
@@ -102,6 +106,7 @@ pub settled :
     ≡ run (plan 0 0 0)
     (engineTables
     (sheetTables (71 ∷ 71 ∷ 71 ∷ 71 ∷ 71 ∷ 71 ∷ []) (72 ∷ 72 ∷ 72 ∷ 72 ∷ 72 ∷ 72 ∷ []) (73 ∷ 73 ∷ 73 ∷ 73 ∷ 73 ∷ 73 ∷ []) (1_025 ∷ 1_098 ∷ 1_098 ∷ 1_098 ∷ 1_098 ∷ []))
+    (indexTables (77 ∷ 77 ∷ 77 ∷ 77 ∷ 77 ∷ 77 ∷ []) (0 ∷ 0 ∷ 78 ∷ 78 ∷ 78 ∷ 78 ∷ []))
     (
     0 ∷ 0 ∷
     75 ∷ 75 ∷ 75 ∷ 75 ∷ 75 ∷ 75 ∷ 75 ∷ 75 ∷
@@ -121,6 +126,7 @@ pub settled :
     ≡ run (plan 0 4 1)
     (engineTables
     (sheetTables (0 ∷ 0 ∷ 71 ∷ 71 ∷ 71 ∷ 71 ∷ []) (1 ∷ 2 ∷ 72 ∷ 72 ∷ 72 ∷ 72 ∷ []) (9 ∷ 4 ∷ 73 ∷ 73 ∷ 73 ∷ 73 ∷ []) (1_025 ∷ 1_026 ∷ 1_026 ∷ 1_098 ∷ 1_098 ∷ []))
+    (indexTables (0 ∷ 1 ∷ 77 ∷ 77 ∷ 77 ∷ 77 ∷ []) (0 ∷ 0 ∷ 1 ∷ 2 ∷ 78 ∷ 78 ∷ []))
     (
     0 ∷ 0 ∷ 4 ∷ 4 ∷
     0 ∷ 4_294_967_295 ∷ 0 ∷ 4_294_967_295 ∷
@@ -141,6 +147,7 @@ pub settled :
     ≡ run (plan 0 7 1)
     (engineTables
     (sheetTables (0 ∷ 1 ∷ 71 ∷ 71 ∷ 71 ∷ 71 ∷ []) (1 ∷ 0 ∷ 72 ∷ 72 ∷ 72 ∷ 72 ∷ []) (7 ∷ 7 ∷ 73 ∷ 73 ∷ 73 ∷ 73 ∷ []) (1_025 ∷ 1_026 ∷ 1_098 ∷ 1_098 ∷ 1_098 ∷ []))
+    (indexTables (1 ∷ 0 ∷ 77 ∷ 77 ∷ 77 ∷ 77 ∷ []) (0 ∷ 1 ∷ 2 ∷ 78 ∷ 78 ∷ 78 ∷ []))
     (
     0 ∷ 0 ∷ 7 ∷ 7 ∷
     0 ∷ 7 ∷ 0 ∷ 7 ∷
@@ -161,6 +168,7 @@ pub settled :
     ≡ run (refused ofSearch 12 0)
     (engineTables
     (sheetTables (71 ∷ 71 ∷ 71 ∷ 71 ∷ 71 ∷ 71 ∷ []) (72 ∷ 72 ∷ 72 ∷ 72 ∷ 72 ∷ 72 ∷ []) (73 ∷ 73 ∷ 73 ∷ 73 ∷ 73 ∷ 73 ∷ []) (1_025 ∷ 1_026 ∷ 1_098 ∷ 1_098 ∷ 1_098 ∷ []))
+    (indexTables (77 ∷ 77 ∷ 77 ∷ 77 ∷ 77 ∷ 77 ∷ []) (0 ∷ 0 ∷ 0 ∷ 78 ∷ 78 ∷ 78 ∷ []))
     (
     0 ∷ 0 ∷ 4_294_967_295 ∷ 4_294_967_295 ∷
     0 ∷ 4_294_967_295 ∷ 0 ∷ 4_294_967_295 ∷
@@ -182,6 +190,7 @@ pub settled :
     ≡ run (plan 0 1_000_000 1)
     (engineTables
     (sheetTables (0 ∷ 1 ∷ 71 ∷ 71 ∷ 71 ∷ 71 ∷ []) (1 ∷ 0 ∷ 72 ∷ 72 ∷ 72 ∷ 72 ∷ []) (1_000_000 ∷ 1_000_000 ∷ 73 ∷ 73 ∷ 73 ∷ 73 ∷ []) (1_025 ∷ 1_026 ∷ 1_098 ∷ 1_098 ∷ 1_098 ∷ []))
+    (indexTables (1 ∷ 0 ∷ 77 ∷ 77 ∷ 77 ∷ 77 ∷ []) (0 ∷ 1 ∷ 2 ∷ 78 ∷ 78 ∷ 78 ∷ []))
     (
     0 ∷ 0 ∷ 1_000_000 ∷ 1_000_000 ∷
     0 ∷ 1_000_000 ∷ 0 ∷ 1_000_000 ∷
@@ -216,6 +225,7 @@ pub senders-settled :
     ≡ run (refused ofSearch 12 0)
     (engineTables
     (sheetTables (0 ∷ 1 ∷ 1 ∷ 0 ∷ 0 ∷ 71 ∷ []) (1 ∷ 2 ∷ 3 ∷ 2 ∷ 3 ∷ 72 ∷ []) (4 ∷ 3 ∷ 3 ∷ 5 ∷ 6 ∷ 73 ∷ []) (4 ∷ 1_024 ∷ 1 ∷ 2 ∷ 1_098 ∷ []))
+    (indexTables (0 ∷ 1 ∷ 3 ∷ 2 ∷ 4 ∷ 77 ∷ []) (0 ∷ 0 ∷ 1 ∷ 3 ∷ 5 ∷ 78 ∷ []))
     (
     0 ∷ 5 ∷ 6 ∷ 10 ∷ 0 ∷ 5 ∷ 6 ∷ 10 ∷
     0 ∷ 3 ∷ 3 ∷ 6 ∷ 4_294_967_295 ∷ 4_294_967_295 ∷ 4_294_967_295 ∷ 4_294_967_295 ∷
@@ -234,6 +244,7 @@ pub senders-settled :
     ≡ run (plan 0 10 3)
     (engineTables
     (sheetTables (0 ∷ 1 ∷ 1 ∷ 0 ∷ 0 ∷ 71 ∷ []) (1 ∷ 2 ∷ 3 ∷ 2 ∷ 3 ∷ 72 ∷ []) (4 ∷ 3 ∷ 3 ∷ 5 ∷ 6 ∷ 73 ∷ []) (1_028 ∷ 1_024 ∷ 1 ∷ 2 ∷ 1_098 ∷ []))
+    (indexTables (0 ∷ 1 ∷ 3 ∷ 2 ∷ 4 ∷ 77 ∷ []) (0 ∷ 0 ∷ 1 ∷ 3 ∷ 5 ∷ 78 ∷ []))
     (
     0 ∷ 5 ∷ 6 ∷ 10 ∷ 0 ∷ 5 ∷ 6 ∷ 10 ∷
     0 ∷ 3 ∷ 3 ∷ 6 ∷ 4_294_967_295 ∷ 4_294_967_295 ∷ 4_294_967_295 ∷ 4_294_967_295 ∷
@@ -253,6 +264,7 @@ pub senders-settled :
     ≡ run (plan 1 9 2)
     (engineTables
     (sheetTables (2 ∷ 1 ∷ 0 ∷ 71 ∷ 71 ∷ 71 ∷ []) (0 ∷ 0 ∷ 3 ∷ 72 ∷ 72 ∷ 72 ∷ []) (5 ∷ 5 ∷ 4 ∷ 73 ∷ 73 ∷ 73 ∷ []) (1 ∷ 1_024 ∷ 1_024 ∷ 2 ∷ 1_098 ∷ []))
+    (indexTables (0 ∷ 1 ∷ 2 ∷ 77 ∷ 77 ∷ 77 ∷ []) (0 ∷ 2 ∷ 2 ∷ 2 ∷ 3 ∷ 78 ∷ []))
     (
     0 ∷ 0 ∷ 4 ∷ 4 ∷
     0 ∷ 5 ∷ 9 ∷ 9 ∷
@@ -274,6 +286,7 @@ pub senders-settled :
     ≡ run (refused ofSearch 12 0)
     (engineTables
     (sheetTables (0 ∷ 0 ∷ 71 ∷ 71 ∷ 71 ∷ 71 ∷ []) (1 ∷ 2 ∷ 72 ∷ 72 ∷ 72 ∷ 72 ∷ []) (9 ∷ 4 ∷ 73 ∷ 73 ∷ 73 ∷ 73 ∷ []) (1 ∷ 1_026 ∷ 1_026 ∷ 1_098 ∷ 1_098 ∷ []))
+    (indexTables (0 ∷ 1 ∷ 77 ∷ 77 ∷ 77 ∷ 77 ∷ []) (0 ∷ 0 ∷ 1 ∷ 2 ∷ 78 ∷ 78 ∷ []))
     (
     0 ∷ 0 ∷ 4 ∷ 4 ∷
     0 ∷ 4_294_967_295 ∷ 0 ∷ 4_294_967_295 ∷
@@ -293,6 +306,7 @@ pub senders-settled :
     ≡ run (plan 1 7 1)
     (engineTables
     (sheetTables (0 ∷ 1 ∷ 71 ∷ 71 ∷ 71 ∷ 71 ∷ []) (1 ∷ 0 ∷ 72 ∷ 72 ∷ 72 ∷ 72 ∷ []) (7 ∷ 7 ∷ 73 ∷ 73 ∷ 73 ∷ 73 ∷ []) (1 ∷ 1_026 ∷ 1_098 ∷ 1_098 ∷ 1_098 ∷ []))
+    (indexTables (1 ∷ 0 ∷ 77 ∷ 77 ∷ 77 ∷ 77 ∷ []) (0 ∷ 1 ∷ 2 ∷ 78 ∷ 78 ∷ 78 ∷ []))
     (
     0 ∷ 0 ∷ 7 ∷ 7 ∷
     0 ∷ 7 ∷ 0 ∷ 7 ∷
@@ -318,3 +332,42 @@ pub senders-settled :
     × (readingOf sheetM planL lentToReader ≡ run (refused ofPlanFile 20 0) (afterM (1 ∷ 1 ∷ 1 ∷ 1 ∷ 76 ∷ [])))
 unfolding verdict readFor loaded planOf fileFault treeFault
 senders-settled = (refl, refl, refl, refl, refl, refl, refl, refl, refl, refl, refl, refl, refl, refl, refl)
+
+-- ---- legs by their end
+
+-- the lent tables with another index
+abbrev withIndex : IndexTables → EngineTables
+withIndex index = engineTables (lent .tables) index (lent .cells) (lent .marks) (lent .buffer)
+
+pub index-settled :
+    -- R: two parallel legs and the leg back between the sites 1 and 2, and the sites 0 and 3 at which no leg arrives
+    (planningOf sheetR lent
+    ≡ run (plan 1 4 1)
+    (engineTables
+    (sheetTables (3 ∷ 1 ∷ 2 ∷ 1 ∷ 71 ∷ 71 ∷ []) (1 ∷ 2 ∷ 1 ∷ 2 ∷ 72 ∷ 72 ∷ []) (2 ∷ 5 ∷ 5 ∷ 4 ∷ 73 ∷ 73 ∷ []) (1_024 ∷ 1_026 ∷ 1_025 ∷ 1_024 ∷ 1_098 ∷ []))
+    (indexTables (0 ∷ 2 ∷ 1 ∷ 3 ∷ 77 ∷ 77 ∷ []) (0 ∷ 0 ∷ 2 ∷ 4 ∷ 4 ∷ 78 ∷ []))
+    (
+    0 ∷ 4_294_967_295 ∷ 4_294_967_295 ∷ 4_294_967_295 ∷
+    0 ∷ 4 ∷ 0 ∷ 4 ∷
+    0 ∷ 0 ∷ 5 ∷ 5 ∷
+    0 ∷ 6 ∷ 2 ∷ 6 ∷
+    75 ∷ 75 ∷ 75 ∷ 75 ∷ 75 ∷ 75 ∷ 75 ∷ 75 ∷
+    75 ∷ 75 ∷ 75 ∷ 75 ∷ 75 ∷ 75 ∷ 75 ∷ 75 ∷
+    75 ∷ []
+    )
+    (1 ∷ 1 ∷ 1 ∷ 1 ∷ 76 ∷ [])
+    (
+    0x50 ∷ 0x4E ∷ 0x00 ∷ 0x01 ∷ 0x00 ∷ 0x00 ∷ 0x00 ∷ 0x04 ∷ 0x00 ∷ 0x01 ∷
+    0x4C ∷ 0x47 ∷ 0x00 ∷ 0x03 ∷
+    0xEE ∷ 0xEE ∷ 0xEE ∷ 0xEE ∷ 0xEE ∷ 0xEE ∷ 0xEE ∷ 0xEE ∷ 0xEE ∷ 0xEE ∷ []
+    )))
+    × (legs (verdict sheetR) ≡ some (3 ∷ []))
+    -- A with one leg number too few, and with one starting place too few: 11, and nothing is touched; with as many as it needs it is planned
+    × (planningOf sheetA (withIndex (indexTables (77 ∷ 77 ∷ 77 ∷ 77 ∷ []) (78 ∷ 78 ∷ 78 ∷ 78 ∷ 78 ∷ [])))
+    ≡ run (refused ofTables 11 0) (withIndex (indexTables (77 ∷ 77 ∷ 77 ∷ 77 ∷ []) (78 ∷ 78 ∷ 78 ∷ 78 ∷ 78 ∷ []))))
+    × (planningOf sheetA (withIndex (indexTables (77 ∷ 77 ∷ 77 ∷ 77 ∷ 77 ∷ []) (78 ∷ 78 ∷ 78 ∷ 78 ∷ [])))
+    ≡ run (refused ofTables 11 0) (withIndex (indexTables (77 ∷ 77 ∷ 77 ∷ 77 ∷ 77 ∷ []) (78 ∷ 78 ∷ 78 ∷ 78 ∷ []))))
+    × (planningOf sheetA (withIndex (indexTables (77 ∷ 77 ∷ 77 ∷ 77 ∷ 77 ∷ []) (78 ∷ 78 ∷ 78 ∷ 78 ∷ 78 ∷ []))) .after .index
+    ≡ indexTables (0 ∷ 1 ∷ 3 ∷ 2 ∷ 4 ∷ []) (0 ∷ 0 ∷ 1 ∷ 3 ∷ 5 ∷ []))
+unfolding verdict readFor loaded planOf
+index-settled = (refl, refl, refl, refl, refl)

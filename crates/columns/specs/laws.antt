@@ -1,3 +1,3 @@
--- a column put into the table; the closing of sets in the list of cells
-pub mod ColumnPut
+-- what is asked of the tables, and cells that are closed over the arcs
+pub mod Searched
 pub mod ClosedCells

@@ -11,13 +11,15 @@ ghost use Rattle.lists.specs.Over.{fitOver};
 ghost use Rattle.desk.specs.Text.{textBytes, deskText, sheetText};
 ghost use Rattle.desk_words.specs.Stored.{Stored};
 
-// The longest input that is read as a sheet; the legs, sites and cells that there is room for; the plan file of a tree of so many sites; and a
-// length that no text exceeds.
+// The longest input that is read as a sheet; the legs, sites, starting places and cells that there is room for; the plan file of a tree of so many
+// sites; and a length that no text exceeds.
 pub const MAX_BYTES: usize = 32768;
 
 const ARCS: usize = 2048;
 
 const NODES: usize = 64;
+
+const PLACES: usize = NODES + 1;
 
 const CELLS: usize = 8192;
 
@@ -34,6 +36,8 @@ fn put_sheet(text: &mut [u8], sheet: &[u8]) -> usize
     let mut ends = [0u16; ARCS];
     let mut weights = [0u32; ARCS];
     let mut landings = [0u16; NODES];
+    let mut by_end = [0u16; ARCS];
+    let mut places = [0u16; PLACES];
     let mut cells: [Cost; CELLS] = [0; CELLS];
     let mut marks = [0u8; NODES];
     let mut buffer = [0u8; PLAN_BYTES];
@@ -43,6 +47,8 @@ fn put_sheet(text: &mut [u8], sheet: &[u8]) -> usize
         &mut ends,
         &mut weights,
         &mut landings,
+        &mut by_end,
+        &mut places,
         &mut cells,
         &mut marks,
         &mut buffer,

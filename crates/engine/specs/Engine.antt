@@ -10,6 +10,7 @@ use Rattle.records.specs.declared.record.Record.{Record}
 use Rattle.record_tables.specs.Loaded.{loaded}
 use Rattle.opener.specs.Opening.{sheetOpening}
 use Rattle.network.specs.Network.{graphOf}
+use Rattle.network.specs.Indexed.{indexed}
 use Rattle.cost_table.specs.Cells.{costTable}
 use Rattle.mission.specs.Runs.{EngineTables, engineFurther, Run, runOpened}
 use Rattle.best_plan.specs.Plan.{planOf, sentBack}
@@ -17,10 +18,12 @@ use Rattle.best_plan.specs.Plan.{planOf, sentBack}
 -- ---- the tables
 
 -- the tables after a plan: "the first entries of these hold the legs in order, each site's set of stations, the costs, and 1 in each mark;
--- later entries are untouched", with the flags of the senders (document 02, W-201); the plan buffer as it was
+-- later entries are untouched", with the flags of the senders (document 02, W-201); the index of the legs (W-202: "12 and 13 leave them filled");
+-- the plan buffer as it was
 abbrev pub searched : (n k : ℕ) → List Record → EngineTables → EngineTables
 searched n k records t = record {
   tables = loaded n records (t .tables);
+  index = indexed (graphOf n k records) (t .index);
   cells = over (costTable (graphOf n k records) noCost) (t .cells);
   marks = over (replicate n 1) (t .marks);
   buffer = t .buffer;

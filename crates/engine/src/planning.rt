@@ -8,6 +8,7 @@ use opener::open_sheet;
 ghost use mathlib.Core.Path.{_≡_};
 ghost use Rattle.answer.specs.Stated.{stated};
 ghost use Rattle.lent_tables.specs.SheetTables.{sheetTables};
+ghost use Rattle.lent_tables.specs.IndexTables.{indexTables};
 ghost use Rattle.mission.specs.Runs.{engineTables, run};
 ghost use Rattle.mission.specs.PointOne.{EngineAnswers};
 ghost use Rattle.mission.specs.PointTwo.{EngineSound};
@@ -22,20 +23,22 @@ pub fn plan_sheet(
     ends: &mut [u16],
     weights: &mut [u32],
     landings: &mut [u16],
+    by_end: &mut [u16],
+    places: &mut [u16],
     cells: &mut [Cost],
     marks: &mut [u8],
     buffer: &mut [u8],
 ) -> Answer
     ensures { λ r. ⌜ (let before = engineTables (sheetTables (now (starts .entry)) (now (ends .entry)) (now (weights .entry)) (now (landings .entry)))
-        (now (cells .entry)) (now (marks .entry)) (now (buffer .entry)) in
+        (indexTables (now («by_end» .entry)) (now (places .entry))) (now (cells .entry)) (now (marks .entry)) (now (buffer .entry)) in
         let after = engineTables (sheetTables (now (starts .exit)) (now (ends .exit)) (now (weights .exit)) (now (landings .exit)))
-        (now (cells .exit)) (now (marks .exit)) (now (buffer .exit)) in
+        (indexTables (now («by_end» .exit)) (now (places .exit))) (now (cells .exit)) (now (marks .exit)) (now (buffer .exit)) in
         ((run (stated r) after ≡ planningOf (now (sheet .entry)) before)
         × (EngineAnswers (now (sheet .entry)) before (stated r) after
         × (EngineSound readingOf (now (sheet .entry)) before (stated r) after
         × EngineBest readingOf (now (sheet .entry)) before (stated r))))) ⌝ }
 {
-    let further = FurtherLengths::of_cells_and_marks(cells.len(), marks.len());
+    let further = FurtherLengths::of_search(by_end.len(), places.len(), cells.len(), marks.len());
     let opened = open_sheet(sheet, starts, ends, weights, landings, further);
     match opened {
         Loaded::Refused(refusal) => Answer::Refused(refusal),
@@ -44,6 +47,8 @@ pub fn plan_sheet(
             ends,
             weights,
             landings,
+            by_end,
+            places,
             n,
             k,
             arcs,

@@ -1,10 +1,10 @@
 // The lent tables: the lengths that are needed of them, and whether they have them. specs/SheetTables.antt has the tables that hold a sheet, as a
-// record of lists; a function is lent each table by itself.
+// record of lists, and specs/IndexTables.antt those that hold the index of its legs; a function is lent each table by itself.
 use subset::sets_of;
 ghost use mathlib.Core.Path.{_≡_};
 ghost use Prim.Native.Nat.{_≤_};
 ghost use Rattle.limits.specs.Limits.{maxTerminals};
-ghost use Rattle.lent_tables.specs.Lengths.{isEnough, lengthsPass, marksOnly, cellsAndMarks};
+ghost use Rattle.lent_tables.specs.Lengths.{isEnough, furtherPass, lengthsPass, marksOnly, searchLengths};
 
 // The length of a further table, one that is not loaded with the sheet: its number of entries, where it is needed.
 pub enum TableLength {
@@ -12,8 +12,10 @@ pub enum TableLength {
     NotNeeded,
 }
 
-// The lengths of all further tables: cells (n times 2^k) and marks (n).
+// The lengths of all further tables: leg numbers by end (one entry a leg), starting places (n + 1), cells (n times 2^k) and marks (n).
 pub struct FurtherLengths {
+    pub by_end: TableLength,
+    pub places: TableLength,
     pub cells: TableLength,
     pub marks: TableLength,
 }
@@ -21,6 +23,8 @@ pub struct FurtherLengths {
 impl FurtherLengths {
     // No further table is needed.
     pub const NONE: FurtherLengths = FurtherLengths {
+        by_end: TableLength::NotNeeded,
+        places: TableLength::NotNeeded,
         cells: TableLength::NotNeeded,
         marks: TableLength::NotNeeded,
     };
@@ -30,16 +34,20 @@ impl FurtherLengths {
         ensures { λ r. ⌜ r ≡ marksOnly marks ⌝ }
     {
         FurtherLengths {
+            by_end: TableLength::NotNeeded,
+            places: TableLength::NotNeeded,
             cells: TableLength::NotNeeded,
             marks: TableLength::Entries(marks),
         }
     }
 
-    // The cells and the marks are needed.
-    pub fn of_cells_and_marks(cells: usize, marks: usize) -> FurtherLengths
-        ensures { λ r. ⌜ r ≡ cellsAndMarks cells marks ⌝ }
+    // All of them are needed: the tables of the search.
+    pub fn of_search(by_end: usize, places: usize, cells: usize, marks: usize) -> FurtherLengths
+        ensures { λ r. ⌜ r ≡ searchLengths «by_end» places cells marks ⌝ }
     {
         FurtherLengths {
+            by_end: TableLength::Entries(by_end),
+            places: TableLength::Entries(places),
             cells: TableLength::Entries(cells),
             marks: TableLength::Entries(marks),
         }
@@ -56,7 +64,29 @@ fn is_enough(need: usize, table: TableLength) -> bool
     }
 }
 
-// Whether tables of these lengths are long enough for a sheet with n sites, k stations and so many legs.
+// Whether the further tables of these lengths are long enough for a sheet with n sites, k stations and so many legs.
+fn further_enough(n: u16, k: u8, arcs: u16, further: FurtherLengths) -> bool
+    requires { ⌜ k ≤ maxTerminals ⌝ }
+    ensures { λ r. ⌜ r ≡ furtherPass n k arcs further ⌝ }
+{
+    let by_end = further.by_end;
+    if !is_enough(arcs as usize, by_end) {
+        return false;
+    }
+    let node_count = n as usize;
+    let places = further.places;
+    if !is_enough(node_count + 1, places) {
+        return false;
+    }
+    let cells = further.cells;
+    if !is_enough(node_count * sets_of(k), cells) {
+        return false;
+    }
+    let marks = further.marks;
+    is_enough(node_count, marks)
+}
+
+// Whether all tables of these lengths are.
 pub fn long_enough(
     n: u16,
     k: u8,
@@ -80,14 +110,8 @@ pub fn long_enough(
     if weights < arc_count {
         return false;
     }
-    let node_count = n as usize;
-    if landings < node_count {
+    if landings < n as usize {
         return false;
     }
-    let cells = further.cells;
-    if !is_enough(node_count * sets_of(k), cells) {
-        return false;
-    }
-    let marks = further.marks;
-    is_enough(node_count, marks)
+    further_enough(n, k, arcs, further)
 }

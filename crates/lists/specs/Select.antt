@@ -1,9 +1,9 @@
 -- The entries of a list that pass a test, in the list's order: what they have,
--- and tests that agree.
+-- tests that agree, and lists put together.
 -- Assumes nothing.
-use mathlib.Core.Path.{_≡_, refl, sym, ap₂, subst}
+use mathlib.Core.Path.{_≡_, refl, sym, ap, ap₂, subst}
 use mathlib.Core.Bool.{Bool, true, false}
-use mathlib.Core.List.{List, [], _∷_}
+use mathlib.Core.List.{List, [], _∷_, _++_}
 use lib.Dec.{T}
 use Rattle.lists.specs.Tests.{by-test}
 use Rattle.lists.specs.Every.{Every}
@@ -29,3 +29,10 @@ module _ {A : Type 0} where
   pub select-same : (p q : A → Bool) (l : List A) → Every (λ x. p x ≡ q x) l → select p l ≡ select q l
   select-same p q [] e = refl
   select-same p q (x ∷ l) e = ap₂ (λ (b : Bool) (r : List A). keep b x r) (e .0) (select-same p q l (e .1))
+
+  -- of two lists put together
+  pub select-append : (p : A → Bool) (a b : List A) → select p (a ++ b) ≡ select p a ++ select p b
+  select-append p [] b = refl
+  select-append p (x ∷ a) b =
+      let later = select-append p a b in
+      by-test (p x) (λ c. keep c x (select p (a ++ b)) ≡ keep c x (select p a) ++ select p b) (λ _. ap (λ (l : List A). x ∷ l) later) (λ _. later)

@@ -19,6 +19,7 @@ use Rattle.sheet.specs.Verdict.{good, bad, verdict}
 use Rattle.records.specs.declared.record.Record.{Record}
 use Rattle.record_tables.specs.Loaded.{loaded}
 use Rattle.network.specs.Network.{graphOf}
+use Rattle.network.specs.Indexed.{indexed}
 use Rattle.planfile.specs.Format.{rootIn, arcsIn}
 use Rattle.cost_table.specs.Cells.{costTable}
 use Rattle.mission.specs.FileDue.{FileDue}
@@ -62,9 +63,10 @@ pub record FirstDue (sheet : List ℕ) (Long : (n k arcCount : ℕ) → Type 0) 
 -- ---- the tables
 
 -- as after a plan: "the first entries of these hold the legs in order, each site's set of stations" (`loaded` of crate record_tables, with the flags
--- of the senders, document 02, W-201), "the costs, and 1 in each mark; later entries are untouched"
+-- of the senders, document 02, W-201), "the costs, and 1 in each mark; later entries are untouched"; and the index of the legs (W-202)
 pub record AsAfterPlan (n k : ℕ) (records : List Record) (before after : EngineTables) : Type 0 where
   pub tables : after .tables ≡ loaded n records (before .tables)
+  pub index : after .index ≡ indexed (graphOf n k records) (before .index)
   pub cells : after .cells ≡ over (costTable (graphOf n k records) noCost) (before .cells)
   pub marks : after .marks ≡ over (replicate n 1) (before .marks)
 

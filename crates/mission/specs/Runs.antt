@@ -10,8 +10,9 @@ use Rattle.answer.specs.Stated.{Stated, plan}
 use Rattle.sheet.specs.Verdict.{good, verdict}
 use Rattle.records.specs.declared.record.Record.{Record}
 use Rattle.lent_tables.specs.SheetTables.{SheetTables}
+use Rattle.lent_tables.specs.IndexTables.{IndexTables}
 use Rattle.opener.specs.Opening.{SheetOpening, byOpening}
-use Rattle.lent_tables.specs.Lengths.{marksOnly, cellsAndMarks, AllLong}
+use Rattle.lent_tables.specs.Lengths.{marksOnly, searchLengths, AllLong}
 use Rattle.lent_tables.specs.declared.FurtherLengths.{FurtherLengths}
 
 -- what a run gives
@@ -66,26 +67,27 @@ Reader = (sheet file : List ℕ) → ReaderTables → Run ReaderTables
 
 -- ---- the engine
 
--- leg starts, leg ends, leg prices and landing sets; cells; marks; and the plan buffer
+-- leg starts, leg ends, leg prices and landing sets; leg numbers by end and starting places (document 02, W-202); cells; marks; and the plan buffer
 pub record EngineTables : Type 0 where
   pub tables : SheetTables
+  pub index : IndexTables
   pub cells : List ℕ
   pub marks : List ℕ
   pub buffer : List ℕ
 
-abbrev pub engineTables : SheetTables → (cells marks buffer : List ℕ) → EngineTables
-engineTables tables cells marks buffer = record { tables = tables; cells = cells; marks = marks; buffer = buffer }
+abbrev pub engineTables : SheetTables → IndexTables → (cells marks buffer : List ℕ) → EngineTables
+engineTables tables index cells marks buffer = record { tables = tables; index = index; cells = cells; marks = marks; buffer = buffer }
 
 -- with other tables that hold a sheet, or with another plan buffer
 abbrev pub withSheet : SheetTables → EngineTables → EngineTables
-withSheet tables t = record { tables = tables; cells = t .cells; marks = t .marks; buffer = t .buffer }
+withSheet tables t = record { tables = tables; index = t .index; cells = t .cells; marks = t .marks; buffer = t .buffer }
 
 abbrev pub withBuffer : List ℕ → EngineTables → EngineTables
-withBuffer buffer t = record { tables = t .tables; cells = t .cells; marks = t .marks; buffer = buffer }
+withBuffer buffer t = record { tables = t .tables; index = t .index; cells = t .cells; marks = t .marks; buffer = buffer }
 
--- beside the tables that hold a sheet it needs the cells and the marks; the plan buffer is no needed table
+-- beside the tables that hold a sheet it needs those of the search: the index, the cells and the marks; the plan buffer is no needed table
 abbrev pub engineFurther : EngineTables → FurtherLengths
-engineFurther t = cellsAndMarks (length (t .cells)) (length (t .marks))
+engineFurther t = searchLengths (length (t .index .byEnd)) (length (t .index .places)) (length (t .cells)) (length (t .marks))
 
 -- its tables are long enough for n sites, k stations and so many legs
 abbrev pub EngineLong : (n k arcCount : ℕ) → EngineTables → Type 0

@@ -1,15 +1,19 @@
 -- Tables that hold a sheet: what a function over them may ask. An opened sheet is held by its tables, and the graph that they hold is that of the
 -- sheet.
 -- Assumes nothing.
-use Prim.Native.Nat.{ℕ, _≤_, _<_}
-use mathlib.Core.Path.{_≡_, sym, ap₂, _∙_, subst}
+use Prim.Native.Nat.{ℕ, _+_, _≤_, _<_}
+use mathlib.Core.Path.{_≡_, sym, ap₂, _∙_, subst, subst₂}
 use mathlib.Core.List.{List}
 use native.Mathlib.Omega.{arith}
+use lib.ListN.{length, getD}
 use Rattle.limits.specs.Limits.{minNodes, maxNodes, minTerminals, maxTerminals, maxArcs, maxWeight, noCost}
 use Rattle.number_fields.specs.Fields.{Bytes}
+use Rattle.lists.specs.Over.{over}
 use Rattle.lent_tables.specs.SheetTables.{SheetTables}
+use Rattle.arc_index.specs.Index.{byEnd, places}
+use Rattle.arc_index.specs.laws.Indexed.{Indexed, indexed}
 use Rattle.graph.specs.Graph.{Graph, Sound}
-use Rattle.graph.specs.HeldGraph.{graphIn}
+use Rattle.graph.specs.HeldGraph.{graphIn, end-in}
 use Rattle.graph.specs.LeastTotals.{Room}
 use Rattle.sheet.specs.laws.Good.{IsSheet, good-is-sheet}
 use Rattle.lent_tables.specs.Lengths.{AllLong}
@@ -28,6 +32,17 @@ pub record HeldSheet (n k m : ℕ) (t : SheetTables) (f : FurtherLengths) : Type
   pub weights-low : (e : ℕ) → e < m → graphIn n k m t .weight e ≤ maxWeight
   pub room : Room (graphIn n k m t) noCost
   pub long : AllLong n k m t f
+
+-- each leg ends at a site, as a program reads its end
+pub ends-below : {n k m : ℕ} {t : SheetTables} {f : FurtherLengths} → HeldSheet n k m t f → (e : ℕ) → e < m → getD (t .ends) e 0 < n
+ends-below {n} {k} {m} {t} H e on = omega (arith, end-in n k m t e on, H .sound .end-lt e on)
+
+-- the tables of the index, once they are filled
+pub held-index : {n k m : ℕ} {t : SheetTables} {f : FurtherLengths} {byEnd' places' : List ℕ} → HeldSheet n k m t f → (old old' : List ℕ) → m ≤ length old → n + 1 ≤ length old'
+    → byEnd' ≡ over (byEnd n m (graphIn n k m t .end)) old → places' ≡ over (places n m (graphIn n k m t .end)) old'
+    → Indexed n m (graphIn n k m t .end) byEnd' places'
+held-index {n} {k} {m} {t} H old old' long long' e e' =
+    subst₂ (Indexed n m (graphIn n k m t .end)) (sym e) (sym e') (indexed n m (graphIn n k m t .end) (H .sound .end-lt) old old' long long')
 
 module _ (s : List ℕ) (bytes : Bytes s) (before after : SheetTables) (f : FurtherLengths) (n k m : ℕ) (o : OpenedSheet s before after f n k m) where
   is-sheet : IsSheet s n k (o .judged .records)

@@ -1,3 +1,3 @@
--- ranges of positions whose subsets have one size, in any order and in that of crate order
+-- ranges of one size, and the sets below a number
 pub mod Ranges
-pub mod InOrder
+pub mod Kept

@@ -3,8 +3,8 @@
 use columns::close_sets;
 use limits::Cost;
 use order::POSITIONS;
-use order::copy_order;
 use order_ranges::end_of_size;
+use order_ranges::sets_below;
 use rows::start_rows;
 use splits::split_rows;
 use subset::sets_of;
@@ -12,39 +12,43 @@ use working_none::finish;
 ghost use mathlib.Core.Path.{_≡_};
 ghost use Prim.Native.Nat.{_*_, _^_, _≤_};
 ghost use lib.ListN.{length, replicate};
-ghost use Rattle.limits.specs.Limits.{noCost};
+ghost use Rattle.limits.specs.Limits.{noCost, maxSubsets};
 ghost use Rattle.lists.specs.Over.{over};
 ghost use Rattle.lent_tables.specs.SheetTables.{sheetTables};
+ghost use Rattle.arc_index.specs.laws.Indexed.{Indexed};
 ghost use Rattle.graph.specs.HeldGraph.{graphIn};
 ghost use Rattle.cost_table.specs.Cells.{costTable};
-ghost use Rattle.order_ranges.specs.laws.InOrder.{OrderTable};
+ghost use Rattle.order_ranges.specs.laws.Ranges.{Ordered, entryOf};
 ghost use Rattle.search.specs.Searchable.{Searchable};
 
-// The most sites.
-const MAX_NODES: usize = limits::MAX_NODES as usize;
+// Four cells for each of the most sites.
+const MAX_LANES: usize = 4 * limits::MAX_NODES as usize;
 
-// The cells of all sites and sets, for a graph with a site for each entry of the column.
+// The cells of all sites and sets. `sets` has the sets in their order, `lanes` four entries for each site.
 fn fill(
     starts: &[u16],
     ends: &[u16],
     weights: &[u32],
     landings: &[u16],
+    index: &[u16],
+    places: &[u16],
     sets: &[u16],
+    n: usize,
     k: u8,
     arcs: usize,
     cells: &mut [Cost],
-    column: &mut [Cost],
+    lanes: &mut [Cost],
 )
     requires { ⌜ (let t = sheetTables (now starts) (now ends) (now weights) (now landings) in
-        (Searchable (length (now column)) k arcs t × (length (now cells) ≡ length (now column) * 2 ^ k) × OrderTable (now sets))) ⌝ }
+        (Searchable n k arcs t × Indexed n arcs (graphIn n k arcs t .end) (now index) (now places) × (length (now cells) ≡ n * 2 ^ k)
+        × (length (now lanes) ≡ n * 4) × Ordered (entryOf (now sets)) (length (now sets)) (2 ^ k) × (length (now sets) ≤ maxSubsets))) ⌝ }
     ensures { λ _. ⌜ (let t = sheetTables (now (starts .entry)) (now (ends .entry)) (now (weights .entry)) (now (landings .entry)) in
-        (now (cells .exit) ≡ costTable (graphIn (length (now (column .entry))) k arcs t) noCost)) ⌝ }
+        (now (cells .exit) ≡ costTable (graphIn n k arcs t) noCost)) ⌝ }
 {
-    let n = column.len();
     let size = sets_of(k);
     start_rows(landings, n, size, cells);
     let mut first: usize = 1;
-    while first < POSITIONS {
+    while first < sets.len() {
         let last = end_of_size(sets, first);
         split_rows(sets, n, size, first, last, cells);
         close_sets(
@@ -52,12 +56,15 @@ fn fill(
             starts,
             ends,
             weights,
+            index,
+            places,
             arcs,
+            n,
             size,
             first,
             last,
             cells,
-            column,
+            lanes,
         );
         first = last;
     }
@@ -75,12 +82,14 @@ fn mark_all(marks: &mut [u8])
     }
 }
 
-// The cost table and the marks of a sheet with n sites, k stations and so many legs, over the tables that hold it.
+// The cost table and the marks of a sheet with n sites, k stations and so many legs, over the tables that hold it and the index of its legs.
 pub fn search(
     starts: &[u16],
     ends: &[u16],
     weights: &[u32],
     landings: &[u16],
+    index: &[u16],
+    places: &[u16],
     n: u16,
     k: u8,
     arcs: u16,
@@ -88,26 +97,32 @@ pub fn search(
     marks: &mut [u8],
 )
     requires { ⌜ (let t = sheetTables (now starts) (now ends) (now weights) (now landings) in
-        (Searchable n k arcs t × (n * 2 ^ k ≤ length (now cells)) × (n ≤ length (now marks)))) ⌝ }
+        (Searchable n k arcs t × Indexed n arcs (graphIn n k arcs t .end) (now index) (now places) × (n * 2 ^ k ≤ length (now cells))
+        × (n ≤ length (now marks)))) ⌝ }
     ensures { λ _. ⌜ (let t = sheetTables (now (starts .entry)) (now (ends .entry)) (now (weights .entry)) (now (landings .entry)) in
         ((now (cells .exit) ≡ over (costTable (graphIn n k arcs t) noCost) (now (cells .entry)))
         × (now (marks .exit) ≡ over (replicate n 1) (now (marks .entry))))) ⌝ }
 {
     let nodes = n as usize;
-    let total = nodes * sets_of(k);
+    let size = sets_of(k);
+    let total = nodes * size;
+    let wide = nodes * 4;
     let mut sets = [0u16; POSITIONS];
-    copy_order(&mut sets);
-    let mut column = [0 as Cost; MAX_NODES];
+    let count = sets_below(size, &mut sets);
+    let mut lanes = [0 as Cost; MAX_LANES];
     fill(
         starts,
         ends,
         weights,
         landings,
-        &sets,
+        index,
+        places,
+        &sets[..count],
+        nodes,
         k,
         arcs as usize,
         &mut cells[..total],
-        &mut column[..nodes],
+        &mut lanes[..wide],
     );
     mark_all(&mut marks[..nodes]);
 }

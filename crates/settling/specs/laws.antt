@@ -1,4 +1,5 @@
--- cells that are closed over the arcs, the arcs in tables, and passes over them
+-- cells that are closed over the arcs, the arcs in tables, four cells of a node, and cells lowered along arcs
 pub mod ClosedOver
 pub mod Arcs
-pub mod Passes
+pub mod LowerFour
+pub mod Lowered

@@ -1,78 +1,97 @@
-// The cells of one set, one for each site, are lowered along the legs until no leg gives less.
+// The cells of four sets, four for each site, are lowered along the legs until no leg gives less.
+use lanes::Four;
+use lanes::lanes_of;
+use lanes::lesser_of;
+use lanes::set_lanes;
 use limits::Cost;
 ghost use mathlib.Core.Path.{_≡_};
-ghost use Prim.Native.Nat.{_<_};
+ghost use Prim.Native.Nat.{_+_, _*_, _≤_};
 ghost use lib.ListN.{length};
+ghost use Rattle.limits.specs.Limits.{maxWeight};
 ghost use Rattle.lent_tables.specs.SheetTables.{arcsAlone};
-ghost use Rattle.working_none.specs.laws.Low.{AllLow};
-ghost use Rattle.settling.specs.laws.Arcs.{ArcTables, taken};
-ghost use Rattle.settling.specs.laws.Passes.{Passed, Settled};
+ghost use Rattle.lanes.specs.laws.Four.{fourOf, FourLow};
+ghost use Rattle.settling.specs.laws.Arcs.{ArcLanes, startAt, endAt, weightAt};
+ghost use Rattle.settling.specs.laws.LowerFour.{alongFour, fallsFour, LoweredAt};
+ghost use Rattle.settling.specs.laws.Lowered.{FirstOpen, Settled};
 
-// The leg that a pass takes after i others: leg i, or, backward, so many before the last.
-fn taken_arc(i: usize, arcs: usize, backward: bool) -> usize
-    requires { ⌜ i < arcs ⌝ }
-    ensures { λ r. ⌜ (r ≡ taken backward arcs i) × (r < arcs) ⌝ }
+// What a leg of this price gives its start, where its end has these cells.
+pub fn along(here: Four, weight: u32) -> Four
+    requires { ⌜ FourLow here × (weight ≤ maxWeight) ⌝ }
+    ensures { λ r. ⌜ r ≡ alongFour here weight ⌝ }
 {
-    if backward {
-        return arcs - 1 - i;
+    let more = weight as Cost;
+    Four {
+        a: here.a + more,
+        b: here.b + more,
+        c: here.c + more,
+        d: here.d + more,
     }
-    i
 }
 
-// One pass over the legs, in their order or backward: the cell of each start is lowered where the leg and the cell of its end give less. Whether
-// one was lowered.
-fn pass(
+// Whether that is less than a cell of site u.
+pub fn falls(lanes: &[Cost], u: usize, by: Four) -> bool
+    requires { ⌜ u * 4 + 4 ≤ length (now lanes) ⌝ }
+    ensures { λ r. ⌜ r ≡ fallsFour (fourOf (now (lanes .entry)) u) by ⌝ }
+{
+    let old = lanes_of(lanes, u);
+    (by.a < old.a) | (by.b < old.b) | (by.c < old.c) | (by.d < old.d)
+}
+
+// Each cell of site u falls to that where it is above it.
+pub fn lower(lanes: &mut [Cost], u: usize, by: Four)
+    requires { ⌜ u * 4 + 4 ≤ length (now lanes) ⌝ }
+    ensures { λ _. ⌜ LoweredAt u by (now (lanes .entry)) (now (lanes .exit)) ⌝ }
+{
+    set_lanes(lanes, u, lesser_of(by, lanes_of(lanes, u)));
+}
+
+// The first leg that gives less, or the number of legs where none does.
+fn first_open(
     starts: &[u16],
     ends: &[u16],
     weights: &[u32],
     arcs: usize,
-    backward: bool,
-    column: &mut [Cost],
-) -> bool
+    n: usize,
+    lanes: &[Cost],
+) -> usize
     requires { ⌜ (let t = arcsAlone (now starts) (now ends) (now weights) in
-        (ArcTables (length (now column)) arcs t × AllLow (now column))) ⌝ }
+        (ArcLanes n arcs t (now lanes))) ⌝ }
     ensures { λ r. ⌜ (let t = arcsAlone (now (starts .entry)) (now (ends .entry)) (now (weights .entry)) in
-        (Passed arcs t (λ e. e) (now (column .entry)) (now (column .exit)) arcs r)) ⌝ }
+        (FirstOpen arcs (startAt t) (endAt t) (weightAt t) (now (lanes .entry)) r)) ⌝ }
 {
-    let mut lowered = false;
-    let mut i: usize = 0;
-    while i < arcs {
-        let e = taken_arc(i, arcs, backward);
-        let start = starts[e] as usize;
+    let mut e = 0;
+    while e < arcs {
         let end = ends[e] as usize;
-        let old = column[start];
-        let given = column[end] + (weights[e] as Cost);
-        let mut new = old;
-        if given < old {
-            new = given;
-            lowered = true;
+        let by = along(lanes_of(lanes, end), weights[e]);
+        if falls(lanes, starts[e] as usize, by) {
+            return e;
         }
-        column[start] = new;
-        i += 1;
+        e += 1;
     }
-    lowered
+    e
 }
 
-// Pass after pass, until one lowers nothing. Every third pass goes backward: cells that depend on each other against the order of the legs are then
-// lowered in one pass.
-pub fn settle(starts: &[u16], ends: &[u16], weights: &[u32], arcs: usize, column: &mut [Cost])
+// As long as there is such a leg, the cells of its start fall. (After a lowering by turns there is none: it leaves this to be found.)
+pub fn settle(
+    starts: &[u16],
+    ends: &[u16],
+    weights: &[u32],
+    arcs: usize,
+    n: usize,
+    lanes: &mut [Cost],
+)
     requires { ⌜ (let t = arcsAlone (now starts) (now ends) (now weights) in
-        (ArcTables (length (now column)) arcs t × AllLow (now column))) ⌝ }
+        (ArcLanes n arcs t (now lanes))) ⌝ }
     ensures { λ _. ⌜ (let t = arcsAlone (now (starts .entry)) (now (ends .entry)) (now (weights .entry)) in
-        (Settled arcs t (now (column .entry)) (now (column .exit)))) ⌝ }
+        (Settled arcs (startAt t) (endAt t) (weightAt t) (now (lanes .entry)) (now (lanes .exit)))) ⌝ }
 {
     loop {
-        let lowered = pass(starts, ends, weights, arcs, false, column);
-        if !lowered {
+        let e = first_open(starts, ends, weights, arcs, n, lanes);
+        if e == arcs {
             return;
         }
-        let again = pass(starts, ends, weights, arcs, false, column);
-        if !again {
-            return;
-        }
-        let back = pass(starts, ends, weights, arcs, true, column);
-        if !back {
-            return;
-        }
+        let end = ends[e] as usize;
+        let by = along(lanes_of(lanes, end), weights[e]);
+        lower(lanes, starts[e] as usize, by);
     }
 }

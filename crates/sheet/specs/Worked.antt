@@ -1,5 +1,5 @@
 -- The bytes of the worked sheets A to J of document 01, "The desk program and worked sheets", and of the sheets M to Q, which name senders (document
--- 02, W-201; K and L are plan files). What the definitions say of them is settled in crate cases.
+-- 02, W-201; K and L are plan files), and of the sheet R, for the index of the legs (document 02, W-202). What the definitions say of them is settled in crate cases.
 -- Assumes nothing.
 use Prim.Native.Nat.{ℕ}
 use mathlib.Core.List.{List, [], _∷_}
@@ -177,5 +177,18 @@ sheetQ =
     0x53 ∷ 0x54 ∷ 0x00 ∷ 0x00 ∷ 0x00 ∷
     0x53 ∷ 0x54 ∷ 0x01 ∷ 0x00 ∷ 0x01 ∷
     0x53 ∷ 0x52 ∷ 0x00 ∷ 0x01 ∷
+    0x45 ∷ 0x44 ∷
+    []
+
+-- `HD` 4 2; `LK` 3 1 2; `BK` 1 2 5; `LK` 1 2 4; `ST` 0 2; `ST` 1 1; `ED`. The legs 1 and 3 both lead from 1 to 2, and leg 2 leads back; no leg arrives
+-- at 0 or at 3.
+abbrev pub sheetR : List ℕ
+sheetR =
+    0x48 ∷ 0x44 ∷ 0x00 ∷ 0x04 ∷ 0x02 ∷
+    0x4C ∷ 0x4B ∷ 0x00 ∷ 0x03 ∷ 0x00 ∷ 0x01 ∷ 0x00 ∷ 0x00 ∷ 0x00 ∷ 0x02 ∷
+    0x42 ∷ 0x4B ∷ 0x00 ∷ 0x01 ∷ 0x00 ∷ 0x02 ∷ 0x00 ∷ 0x00 ∷ 0x00 ∷ 0x05 ∷
+    0x4C ∷ 0x4B ∷ 0x00 ∷ 0x01 ∷ 0x00 ∷ 0x02 ∷ 0x00 ∷ 0x00 ∷ 0x00 ∷ 0x04 ∷
+    0x53 ∷ 0x54 ∷ 0x00 ∷ 0x00 ∷ 0x02 ∷
+    0x53 ∷ 0x54 ∷ 0x01 ∷ 0x00 ∷ 0x01 ∷
     0x45 ∷ 0x44 ∷
     []

@@ -1,3 +1,4 @@
--- the splits of a set, and of the sets of a row
+-- the splits of one set, four cells of a set, and the splits of the sets of one size
 pub mod BestSplit
-pub mod SplitRow
+pub mod FourRows
+pub mod SplitRows

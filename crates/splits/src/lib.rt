@@ -1,51 +1,100 @@
-// The cells of one site, one for each set of stations, are lowered by the splits of the sets of one size into two parts.
+// The cells of each site, one for each set of stations, are lowered by the splits of the sets of one size into two parts, four sites at a time.
+use lanes::Four;
+use lanes::FourNumbers;
+use lanes::four_from;
+use lanes::lesser_of;
 use limits::Cost;
 ghost use mathlib.Core.Path.{_≡_};
-ghost use Prim.Native.Nat.{_*_, _<_, _≤_};
+ghost use Prim.Native.Nat.{_+_, _*_, _<_, _≤_};
 ghost use lib.ListN.{length};
 ghost use Rattle.limits.specs.Limits.{maxNodes, maxSubsets};
-ghost use Rattle.order.specs.Order.{inOrder};
-ghost use Rattle.order_ranges.specs.laws.Ranges.{OneSize};
-ghost use Rattle.order_ranges.specs.laws.InOrder.{OrderTable};
-ghost use Rattle.working_none.specs.laws.Low.{entry, AllLow};
-ghost use Rattle.rows.specs.laws.Rows.{EachRow};
-ghost use Rattle.splits.specs.laws.BestSplit.{BestSplit};
-ghost use Rattle.splits.specs.laws.SplitRow.{SplitRow};
+ghost use Rattle.order_ranges.specs.laws.Ranges.{Ordered, OneSize, entryOf};
+ghost use Rattle.working_none.specs.laws.Low.{AllLow};
+ghost use Rattle.lanes.specs.laws.Four.{nth, nthNumber, FourLow};
+ghost use Rattle.lanes.specs.laws.WriteFour.{writeRows};
+ghost use Rattle.splits.specs.laws.FourRows.{sumFour, rowsAt, Rows};
+ghost use Rattle.splits.specs.laws.BestSplit.{BestSplits};
+ghost use Rattle.splits.specs.laws.SplitRows.{FourSplit, SplitTo};
 
-// The least of the cell of the set w and of its splits into two parts, by their greater part.
-fn best_split(row: &[Cost], w: usize) -> Cost
-    requires { ⌜ (0 < w) × (w < length (now row)) × (length (now row) ≤ maxSubsets) × AllLow (now row) ⌝ }
-    ensures { λ r. ⌜ BestSplit (entry (now (row .entry))) w r ⌝ }
+// Four costs and four costs, added.
+fn sum_of(x: Four, y: Four) -> Four
+    requires { ⌜ FourLow x × FourLow y ⌝ }
+    ensures { λ r. ⌜ r ≡ sumFour x y ⌝ }
 {
-    let mut best = row[w];
+    Four {
+        a: x.a + y.a,
+        b: x.b + y.b,
+        c: x.c + y.c,
+        d: x.d + y.d,
+    }
+}
+
+// The cells of four sites and the set w.
+fn read_rows(cells: &[Cost], size: usize, rows: FourNumbers, w: usize) -> Four
+    requires { ⌜ (rows .a * size + w < length (now cells)) × (rows .b * size + w < length (now cells))
+        × (rows .c * size + w < length (now cells)) × (rows .d * size + w < length (now cells)) ⌝ }
+    ensures { λ r. ⌜ r ≡ rowsAt (now (cells .entry)) size (nthNumber rows) w ⌝ }
+{
+    Four {
+        a: cells[rows.a * size + w],
+        b: cells[rows.b * size + w],
+        c: cells[rows.c * size + w],
+        d: cells[rows.d * size + w],
+    }
+}
+
+// They are written; where two of the sites are one, the later value counts.
+fn write_rows(cells: &mut [Cost], size: usize, rows: FourNumbers, w: usize, four: Four)
+    requires { ⌜ (rows .a * size + w < length (now cells)) × (rows .b * size + w < length (now cells))
+        × (rows .c * size + w < length (now cells)) × (rows .d * size + w < length (now cells)) ⌝ }
+    ensures { λ _. ⌜ now (cells .exit) ≡ writeRows size (nthNumber rows) w (nth four) (now (cells .entry)) ⌝ }
+{
+    cells[rows.a * size + w] = four.a;
+    cells[rows.b * size + w] = four.b;
+    cells[rows.c * size + w] = four.c;
+    cells[rows.d * size + w] = four.d;
+}
+
+// Of each of four sites, the least of the cell of the set w and of its splits into two parts, by their greater part.
+fn best_splits(cells: &[Cost], size: usize, rows: FourNumbers, w: usize) -> Four
+    requires { ⌜ Rows (now cells) size (nthNumber rows) × (0 < w) × (w < size) ⌝ }
+    ensures { λ r. ⌜ BestSplits (now (cells .entry)) size (nthNumber rows) w r ⌝ }
+{
+    let mut best = read_rows(cells, size, rows, w);
     let mut y = (w - 1) & w;
     while w < y + y {
-        let sum = row[y] + row[w - y];
-        if sum < best {
-            best = sum;
-        }
+        let sums = sum_of(
+            read_rows(cells, size, rows, y),
+            read_rows(cells, size, rows, w - y),
+        );
+        best = lesser_of(sums, best);
         y = (y - 1) & w;
     }
     best
 }
 
-// Each set at the positions from `first` up to `last` of the order, which have one size: its cell becomes that least. Sets that the row does
-// not have are passed over. `sets` has the sets in their order.
-fn split_row(sets: &[u16], row: &mut [Cost], first: usize, last: usize)
-    requires { ⌜ OrderTable (now sets) × (0 < first) × OneSize inOrder maxSubsets first last × (length (now row) ≤ maxSubsets) × AllLow (now row) ⌝ }
-    ensures { λ _. ⌜ SplitRow inOrder first last (now (row .entry)) (now (row .exit)) ⌝ }
+// Each set at the positions from `first` up to `last` of the order, which have one size: its cells at four sites become these least ones.
+fn split_four(
+    sets: &[u16],
+    size: usize,
+    rows: FourNumbers,
+    first: usize,
+    last: usize,
+    cells: &mut [Cost],
+)
+    requires { ⌜ Ordered (entryOf (now sets)) (length (now sets)) size × OneSize (entryOf (now sets)) (length (now sets)) first last
+        × (0 < first) × Rows (now cells) size (nthNumber rows) ⌝ }
+    ensures { λ _. ⌜ FourSplit (entryOf (now (sets .entry))) first last size (nthNumber rows) (now (cells .entry)) (now (cells .exit)) ⌝ }
 {
     let mut position = first;
     while position < last {
         let w = sets[position] as usize;
-        if w < row.len() {
-            row[w] = best_split(row, w);
-        }
+        write_rows(cells, size, rows, w, best_splits(cells, size, rows, w));
         position += 1;
     }
 }
 
-// The splits of the sets of one size, site by site.
+// The splits of the sets of one size at all sites.
 pub fn split_rows(
     sets: &[u16],
     n: usize,
@@ -54,16 +103,13 @@ pub fn split_rows(
     last: usize,
     cells: &mut [Cost],
 )
-    requires { ⌜ OrderTable (now sets) × (n ≤ maxNodes) × (size ≤ maxSubsets) × (length (now cells) ≡ n * size)
-        × (0 < first) × OneSize inOrder maxSubsets first last
-        × AllLow (now cells) ⌝ }
-    ensures { λ _. ⌜ EachRow (λ v. SplitRow inOrder first last) n size n (now (cells .entry)) (now (cells .exit)) ⌝ }
+    requires { ⌜ Ordered (entryOf (now sets)) (length (now sets)) size × OneSize (entryOf (now sets)) (length (now sets)) first last
+        × (0 < first) × (n ≤ maxNodes) × (size ≤ maxSubsets) × (length (now cells) ≡ n * size) × AllLow (now cells) ⌝ }
+    ensures { λ _. ⌜ SplitTo (entryOf (now (sets .entry))) first last n size n (now (cells .entry)) (now (cells .exit)) ⌝ }
 {
     let mut v: usize = 0;
     while v < n {
-        let from = v * size;
-        let to = from + size;
-        split_row(sets, &mut cells[from..to], first, last);
-        v += 1;
+        split_four(sets, size, four_from(v, n), first, last, cells);
+        v += 4;
     }
 }

@@ -10,6 +10,7 @@ use limits::Cost;
 use plan_reader::read::read_plan;
 ghost use mathlib.Core.Path.{_≡_};
 ghost use Rattle.lent_tables.specs.SheetTables.{sheetTables};
+ghost use Rattle.lent_tables.specs.IndexTables.{indexTables};
 ghost use Rattle.mission.specs.Runs.{engineTables, readerTables};
 ghost use Rattle.engine.specs.Engine.{planningOf};
 ghost use Rattle.questions.specs.Questions.{cellAnswer, SenderAnswer};
@@ -19,7 +20,7 @@ ghost use Rattle.uldhvamm.specs.Interface.{interface};
 ghost use Rattle.uldhvamm.specs.Returned.{call, callOf};
 
 // The number of the interface: one more where a landing changes the parameters, the widths or the values of a function that stood before.
-const INTERFACE: u32 = 2;
+const INTERFACE: u32 = 3;
 
 // The interface of this library. A caller that was built for another must not call the functions below.
 #[no_mangle]
@@ -37,18 +38,31 @@ pub extern "C" fn uldhvamm_plan(
     ends: &mut [u16],
     prices: &mut [u32],
     landings: &mut [u16],
+    by_end: &mut [u16],
+    places: &mut [u16],
     cells: &mut [Cost],
     marks: &mut [u8],
     plan: &mut [u8],
     answer: &mut [u64],
 ) -> u32
     ensures { λ r. ⌜ (let before = engineTables (sheetTables (now (starts .entry)) (now (ends .entry)) (now (prices .entry)) (now (landings .entry)))
-        (now (cells .entry)) (now (marks .entry)) (now (plan .entry)) in
+        (indexTables (now («by_end» .entry)) (now (places .entry))) (now (cells .entry)) (now (marks .entry)) (now (plan .entry)) in
         let after = engineTables (sheetTables (now (starts .exit)) (now (ends .exit)) (now (prices .exit)) (now (landings .exit)))
-        (now (cells .exit)) (now (marks .exit)) (now (plan .exit)) in
+        (indexTables (now («by_end» .exit)) (now (places .exit))) (now (cells .exit)) (now (marks .exit)) (now (plan .exit)) in
         call r (now (answer .exit)) after ≡ callOf (planningOf (now (sheet .entry)) before) (now (answer .entry))) ⌝ }
 {
-    let sent = plan_sheet(sheet, starts, ends, prices, landings, cells, marks, plan);
+    let sent = plan_sheet(
+        sheet,
+        starts,
+        ends,
+        prices,
+        landings,
+        by_end,
+        places,
+        cells,
+        marks,
+        plan,
+    );
     give(sent, answer)
 }
 

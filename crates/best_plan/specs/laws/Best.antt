@@ -30,7 +30,7 @@ use Rattle.landing_entries.specs.Entries.{isSenderAt}
 use Rattle.cost_table.specs.Cheapest.{senderColumn, LowestTo}
 use Rattle.cost_table.specs.laws.Rows.{length-table, table-over}
 use Rattle.lent_tables.specs.SheetTables.{SheetTables}
-use Rattle.lent_tables.specs.Lengths.{cellsAndMarks}
+use Rattle.lent_tables.specs.declared.FurtherLengths.{FurtherLengths}
 use Rattle.network.specs.HeldSheet.{HeldSheet}
 use Rattle.planfile.specs.Format.{fileBytes, fileSize}
 use Rattle.planfile.specs.laws.FormatLaws.{Fits, fits-encoding, length-file}
@@ -230,10 +230,11 @@ module _ {n k m : ℕ} {t : SheetTables} {cells : List ℕ} (F : FinishedSheet n
 
 -- ---- over tables that hold a sheet
 
-module _ {n k m : ℕ} {t : SheetTables} (cells marks : List ℕ) (H : HeldSheet n k m t (cellsAndMarks (length cells) (length marks))) where
+module _ {n k m : ℕ} {t : SheetTables} {f : FurtherLengths} (H : HeldSheet n k m t f) where
   -- the table that the search leaves is finished
-  pub search-finishes : {after : List ℕ} → after ≡ over (costTable (graphIn n k m t) noCost) cells → FinishedSheet n k m t after
-  search-finishes {after} e = record {
+  pub search-finishes : (cells : List ℕ) → n * 2 ^ k ≤ length cells → {after : List ℕ} → after ≡ over (costTable (graphIn n k m t) noCost) cells
+      → FinishedSheet n k m t after
+  search-finishes cells long {after} e = record {
     some-node = H .nodes .0;
     few-nodes = H .nodes .1;
     few-arcs = H .few-arcs;
@@ -241,7 +242,7 @@ module _ {n k m : ℕ} {t : SheetTables} (cells marks : List ℕ) (H : HeldSheet
       some-terminal = H .terminals .0;
       terminals = H .terminals .1;
       long = H .long .tables;
-      long-cells = omega (arith, ap length e, length-over table cells (omega (arith, so-many, H .long .further .cells)), H .long .further .cells);
+      long-cells = omega (arith, ap length e, length-over table cells (omega (arith, so-many)));
       finished = record { sound = H .sound; room = H .room; table = held };
     };
   }

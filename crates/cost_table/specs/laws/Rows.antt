@@ -5,9 +5,9 @@ use Prim.Native.Nat.{ℕ, suc, _+_, _*_, _/_, _%_, _^_, _≤_, _<_}
 use mathlib.Core.Path.{_≡_, sym, ap, ap₂, _∙_}
 use mathlib.Core.List.{List, map}
 use native.Mathlib.Omega.{arith}
-use native.Mathlib.Nat.{zero-add, mul-comm, mul-zero, div-add-mod', div-lt-iff-lt-mul, mod-lt}
+use native.Mathlib.Nat.{zero-add, mul-comm, mul-zero, mul-le-mul-right, suc-mul, div-add-mod', div-lt-iff-lt-mul, mod-lt}
 use native.Mathlib.Decide.{ℕ-discrete}
-use lib.Arith.{digits-lt}
+use lib.Arith.{digits-lt, digits-div, digits-mod}
 use lib.ListN.{length, getD, drop, List·getD-append}
 use lib.Seq.{ext-getD, getD-drop}
 use Rattle.lists.specs.Joined.{joined, length-joined, drop-joined}
@@ -22,6 +22,17 @@ use Rattle.cost_table.specs.Cells.{cellIn, cellsOf, costTable}
 -- a cell's place is within the table
 pub place-lt : (v n size w len : ℕ) → v < n → w < size → n * size ≤ len → v * size + w < len
 place-lt v n size w len on small long = let l = digits-lt on small in omega arith
+
+-- different nodes or sets have different places
+pub place-node : (size u v y w : ℕ) → y < size → w < size → u * size + y ≡ v * size + w → u ≡ v
+place-node size u v y w ly lw e = sym (digits-div u ly) ∙ ap (λ (x : ℕ). x / size) e ∙ digits-div v lw
+
+pub place-set : (size u v y w : ℕ) → y < size → w < size → u * size + y ≡ v * size + w → y ≡ w
+place-set size u v y w ly lw e = sym (digits-mod u ly) ∙ ap (λ (x : ℕ). x % size) e ∙ digits-mod v lw
+
+-- the cells of n nodes fill n * size places
+pub row-fits : (v n size : ℕ) → v < n → v * size + size ≤ n * size
+row-fits v n size l = let h = mul-le-mul-right size l in omega (arith, suc-mul v size)
 
 -- and each place is that of a node and a set
 pub place-of : (n size i : ℕ) → i < n * size → (v : ℕ) × (w : ℕ) × (v < n) × (w < size) × (v * size + w ≡ i)

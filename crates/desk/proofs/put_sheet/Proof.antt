@@ -30,6 +30,12 @@ slice-aggregate-plan-sheet-6 c = search needs
 slice-aggregate-plan-sheet-7 : tie.Need-slice-aggregate-plan-sheet-7
 slice-aggregate-plan-sheet-7 c = search needs
 
+slice-aggregate-plan-sheet-8 : tie.Need-slice-aggregate-plan-sheet-8
+slice-aggregate-plan-sheet-8 c = search needs
+
+slice-aggregate-plan-sheet-9 : tie.Need-slice-aggregate-plan-sheet-9
+slice-aggregate-plan-sheet-9 c = search needs
+
 plan-sheet-requires : tie.Need-plan-sheet-requires
 plan-sheet-requires c κs = search needs
 
@@ -47,19 +53,21 @@ slice-aggregate-put-answer-4 c = search needs
 
 put-answer-requires : tie.Need-put-answer-requires
 put-answer-requires c κs =
-    let known = c .before .before .before .before .before .before .before .before .before .before .before .before .before .before .before .before .before .before .before .before in
+    let sent = c .before .before .before .before .before .before .before .before .before .before .before .before .before .before in
+    let known = sent .before .before .before .before .before .before .before .before .before .before in
     answered _ (known-bytes (now (known .before .before .args .sheet)) (λ i. omega (arith, known .shared-slice-known .given i)))
-    zeros zeros-desk _ _ (c .before .before .before .before .before .before .before .before .before .before .before .before .plan-sheet .ensures .0) .listable
+    zeros zeros-desk _ _ (sent .plan-sheet .ensures .0) .listable
 
 same-length : tie.Need-same-length
 same-length c = search needs
 
 returns : tie.Need-returns
 returns c =
-    let known = c .before .before .before .before .before .before .before .before .before .before .before .before .before .before .before .before .before .before .before .before .before .before .before in
-    let sent = answered _ (known-bytes (now (known .before .before .args .sheet)) (λ i. omega (arith, known .shared-slice-known .given i)))
-    zeros zeros-desk _ _ (c .before .before .before .before .before .before .before .before .before .before .before .before .before .before .before .plan-sheet .ensures .0) in
-    (stored-same (sent .same) (c .before .before .put-answer .ensures .0), omega (arith, c .before .before .put-answer .ensures .1, sent .few))
+    let sent = c .before .before .before .before .before .before .before .before .before .before .before .before .before .before .before .before .before in
+    let known = sent .before .before .before .before .before .before .before .before .before .before in
+    let told = answered _ (known-bytes (now (known .before .before .args .sheet)) (λ i. omega (arith, known .shared-slice-known .given i)))
+    zeros zeros-desk _ _ (sent .plan-sheet .ensures .0) in
+    (stored-same (told .same) (c .before .before .put-answer .ensures .0), omega (arith, c .before .before .put-answer .ensures .1, told .few))
 
 pub put-sheet-spec : {M : Type 1} → statement M
 put-sheet-spec =
@@ -72,6 +80,8 @@ put-sheet-spec =
     slice-aggregate-plan-sheet-5
     slice-aggregate-plan-sheet-6
     slice-aggregate-plan-sheet-7
+    slice-aggregate-plan-sheet-8
+    slice-aggregate-plan-sheet-9
     plan-sheet-requires
     slice-aggregate-put-answer
     slice-aggregate-put-answer-2

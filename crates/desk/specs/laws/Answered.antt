@@ -26,6 +26,7 @@ use Rattle.number_fields.specs.Fields.{Bytes}
 use Rattle.sheet.specs.Verdict.{Verdict, good, bad, verdict}
 use Rattle.records.specs.declared.record.Record.{Record}
 use Rattle.lent_tables.specs.SheetTables.{SameLengths, sheetTables}
+use Rattle.lent_tables.specs.IndexTables.{indexTables}
 use Rattle.record_tables.specs.laws.Writing.{loaded-lengths}
 use Rattle.opener.specs.Opening.{SheetOpening, refuses, opens, byVerdict, byOpening}
 use Rattle.record_tables.specs.laws.Held.{start-held, end-held, weight-held}
@@ -100,12 +101,14 @@ no-legs noSender never = omega arith
 
 -- ---- the desk's tables
 
--- "2,048 legs, 64 sites, 8,192 cells and a plan buffer that holds any tree of 64 sites"
+-- "2,048 legs, 64 sites, 8,192 cells and a plan buffer that holds any tree of 64 sites"; of the index as many legs and sites (document 02, W-202)
 pub record DeskTables (t : EngineTables) : Type 0 where
   pub starts : length (t .tables .starts) ≡ deskArcs
   pub ends : length (t .tables .ends) ≡ deskArcs
   pub weights : length (t .tables .weights) ≡ deskArcs
   pub landings : length (t .tables .landings) ≡ deskNodes
+  pub byEnd : length (t .index .byEnd) ≡ deskArcs
+  pub places : length (t .index .places) ≡ deskNodes + 1
   pub cells : length (t .cells) ≡ deskCells
   pub marks : length (t .marks) ≡ deskNodes
   pub buffer : length (t .buffer) ≡ fileSize deskTree
@@ -114,7 +117,7 @@ pub record DeskTables (t : EngineTables) : Type 0 where
 abbrev pub zeros : EngineTables
 zeros =
     engineTables (sheetTables (replicate deskArcs 0) (replicate deskArcs 0) (replicate deskArcs 0) (replicate deskNodes 0))
-    (replicate deskCells 0) (replicate deskNodes 0) (replicate (fileSize deskTree) 0)
+    (indexTables (replicate deskArcs 0) (replicate (deskNodes + 1) 0)) (replicate deskCells 0) (replicate deskNodes 0) (replicate (fileSize deskTree) 0)
 
 pub zeros-desk : DeskTables zeros
 zeros-desk = record {
@@ -122,6 +125,8 @@ zeros-desk = record {
   ends = length-replicate {A = ℕ} deskArcs 0;
   weights = length-replicate {A = ℕ} deskArcs 0;
   landings = length-replicate {A = ℕ} deskNodes 0;
+  byEnd = length-replicate {A = ℕ} deskArcs 0;
+  places = length-replicate {A = ℕ} (deskNodes + 1) 0;
   cells = length-replicate {A = ℕ} deskCells 0;
   marks = length-replicate {A = ℕ} deskNodes 0;
   buffer = length-replicate {A = ℕ} (fileSize deskTree) 0;
@@ -143,7 +148,12 @@ module _ (n k m : ℕ) (t : EngineTables) (d : DeskTables t) where
           weights = omega (arith, d .weights);
           landings = omega (arith, d .landings);
         };
-        further = record { cells = omega (arith, d .cells); marks = omega (arith, d .marks) };
+        further = record {
+          byEnd = omega (arith, d .byEnd);
+          places = omega (arith, d .places);
+          cells = omega (arith, d .cells);
+          marks = omega (arith, d .marks);
+        };
       }
 
   long-fits : EngineLong n k m t → deskFits n k m ≡ true

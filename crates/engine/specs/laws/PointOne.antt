@@ -56,7 +56,7 @@ module _ (sheet : List ℕ) (t : EngineTables) where
       k = k;
       records = records;
       good-sheet = e;
-      holds = record { tables = refl; cells = refl; marks = refl };
+      holds = record { tables = refl; index = refl; cells = refl; marks = refl };
     }
 
     -- 12 and 13

@@ -1,6 +1,6 @@
 -- The tests of the lengths pass exactly where the tables are long enough; and the test of the cells, as code makes it.
 -- Assumes nothing.
-use Prim.Native.Nat.{ℕ, _*_, _^_, _≤_, _<_}
+use Prim.Native.Nat.{ℕ, _+_, _*_, _^_, _≤_, _<_}
 use mathlib.Core.Path.{_≡_, refl, sym, ap, _∙_}
 use mathlib.Core.Bool.{Bool, true, _&&_}
 use native.Mathlib.Nat.{mul-le-mul}
@@ -12,7 +12,7 @@ use borrow.Author.Tests.{leb-true, le-leb}
 use Rattle.limits.specs.Limits.{maxTerminals, maxSubsets}
 use Rattle.lists.specs.Tests.{both-true}
 use Rattle.lent_tables.specs.SheetTables.{SheetTables}
-use Rattle.lent_tables.specs.Lengths.{Enough, AllLong, isEnough, areLong}
+use Rattle.lent_tables.specs.Lengths.{Enough, FurtherLong, AllLong, isEnough, furtherPass, areLong}
 use Rattle.lent_tables.specs.declared.TableLength.{TableLength}
 use Rattle.lent_tables.specs.declared.TableLength.the-variants.{Entries, NotNeeded}
 use Rattle.lent_tables.specs.declared.FurtherLengths.{FurtherLengths}
@@ -25,6 +25,27 @@ true-enough : (need : ℕ) (table : TableLength) → Enough need table → isEno
 true-enough need (Entries count) h = le-leb need count h
 true-enough need NotNeeded h = refl
 
+module _ (n k arcCount : ℕ) (f : FurtherLengths) where
+  further-test-long : furtherPass n k arcCount f ≡ true → FurtherLong n k arcCount f
+  further-test-long e =
+      let a = isEnough arcCount (f .«by_end») in
+      let b = isEnough (n + 1) (f .places) in
+      let c = isEnough (n * 2 ^ k) (f .cells) in
+      let (before-marks, marks) = both-true (a && b && c) (isEnough n (f .marks)) e in
+      let (index, cells) = both-true (a && b) c before-marks in
+      let (by-end, places) = both-true a b index in
+      record {
+        byEnd = enough-true arcCount (f .«by_end») by-end;
+        places = enough-true (n + 1) (f .places) places;
+        cells = enough-true (n * 2 ^ k) (f .cells) cells;
+        marks = enough-true n (f .marks) marks;
+      }
+
+  further-long-passes : FurtherLong n k arcCount f → furtherPass n k arcCount f ≡ true
+  further-long-passes l =
+      λ i. true-enough arcCount (f .«by_end») (l .byEnd) i && true-enough (n + 1) (f .places) (l .places) i
+      && true-enough (n * 2 ^ k) (f .cells) (l .cells) i && true-enough n (f .marks) (l .marks) i
+
 module _ (n k arcCount : ℕ) (t : SheetTables) (f : FurtherLengths) where
   pub test-long : areLong n k arcCount t f ≡ true → AllLong n k arcCount t f
   test-long e =
@@ -32,22 +53,20 @@ module _ (n k arcCount : ℕ) (t : SheetTables) (f : FurtherLengths) where
       let b = leb arcCount (length (t .ends)) in
       let c = leb arcCount (length (t .weights)) in
       let d = leb n (length (t .landings)) in
-      let x = isEnough (n * 2 ^ k) (f .cells) in
-      let (before-marks, marks) = both-true (a && b && c && d && x) (isEnough n (f .marks)) e in
-      let (loaded, cells) = both-true (a && b && c && d) x before-marks in
+      let (loaded, further) = both-true (a && b && c && d) (furtherPass n k arcCount f) e in
       let (arcs, landings) = both-true (a && b && c) d loaded in
       let (both, weights) = both-true (a && b) c arcs in
       let (starts, ends) = both-true a b both in
       record {
         tables = record { starts = leb-true _ _ starts; ends = leb-true _ _ ends; weights = leb-true _ _ weights; landings = leb-true _ _ landings };
-        further = record { cells = enough-true (n * 2 ^ k) (f .cells) cells; marks = enough-true n (f .marks) marks };
+        further = further-test-long n k arcCount f further;
       }
 
   pub long-passes : AllLong n k arcCount t f → areLong n k arcCount t f ≡ true
   long-passes l =
       let tables = l .tables in
       λ i. le-leb _ _ (tables .starts) i && le-leb _ _ (tables .ends) i && le-leb _ _ (tables .weights) i && le-leb _ _ (tables .landings) i
-      && true-enough (n * 2 ^ k) (f .cells) (l .further .cells) i && true-enough n (f .marks) (l .further .marks) i
+      && further-long-passes n k arcCount f (l .further) i
 
 -- ---- the number of cells, as code has it
 

@@ -2,7 +2,7 @@
 -- and for roots say the sentences of the mission and of document 01, of trees and sites as document 02, W-201, has them: "The best sender, "no
 -- plan" and every rival tree are judged among trees whose root is a sender."
 -- Assumes nothing.
-use Prim.Native.Nat.{ℕ, _+_, _-_, _<_, _≤_}
+use Prim.Native.Nat.{ℕ, _+_, _<_, _≤_}
 use mathlib.Core.Path.{_≡_, sym, _∙_, subst}
 use mathlib.Core.Logic.{_↔_}
 use mathlib.Core.List.{List}

@@ -1,31 +1,35 @@
--- The subsets in their order, by positions: a range of positions whose subsets have one size. No subset of the range is a proper part of
--- another one, or a part of one that stands before the range.
+-- Subsets in their order, by positions: a range of positions whose subsets have one size. No subset of the range is a proper part of another one,
+-- or a part of one that stands before the range.
 -- Assumes nothing.
-use Prim.Native.Nat.{ℕ, _≤_, _<_}
+use Prim.Native.Nat.{ℕ, _+_, _≤_, _<_}
 use mathlib.Core.Path.{_≡_, sym, ap, _∙_}
 use mathlib.Core.Logic.{_≢_, _⊎_, inl, inr}
+use mathlib.Core.List.{List}
 use native.Mathlib.Omega.{arith}
 use native.Mathlib.Decide.{decLt, ℕ-discrete}
 use lib.Count.{ones}
+use lib.ListN.{getD, take}
+use lib.Seq.{getD-take}
 use Rattle.subset.specs.Sets.{Part}
 use Rattle.subset.specs.laws.Parts.{part-le}
-use Rattle.subset.specs.laws.Sizes.{proper-part-size}
+use Rattle.subset.specs.laws.Sizes.{proper-part-size, ones-empty, ones-pos}
 
--- m subsets, each number below m once, and no size before a smaller one
-pub record Ordered (at : ℕ → ℕ) (m : ℕ) : Type 0 where
+-- the entries of a table, by their positions
+abbrev pub entryOf : List ℕ → ℕ → ℕ
+entryOf l i = getD l i 0
+
+-- m subsets, each number below `size` once, and no size before a smaller one
+pub record Ordered (at : ℕ → ℕ) (m size : ℕ) : Type 0 where
   pub rises : (i j : ℕ) → i ≤ j → j < m → ones (at i) ≤ ones (at j)
   pub apart : (i j : ℕ) → i < j → j < m → at i ≢ at j
-  pub found : (w : ℕ) → w < m → (i : ℕ) × (i < m) × (at i ≡ w)
+  pub below : (i : ℕ) → i < m → at i < size
+  pub found : (w : ℕ) → w < size → (i : ℕ) × (i < m) × (at i ≡ w)
 
 -- the subsets at the positions from `first` up to `last` have one size
 pub record OneSize (at : ℕ → ℕ) (m first last : ℕ) : Type 0 where
   pub rising : first ≤ last
   pub bound : last ≤ m
   pub same : (i j : ℕ) → first ≤ i → i < last → first ≤ j → j < last → ones (at i) ≡ ones (at j)
-
--- a shorter range
-pub shorter : (at : ℕ → ℕ) (m first last p : ℕ) → first ≤ p → p ≤ last → OneSize at m first last → OneSize at m first p
-shorter at m first last p f le R = record { rising = f; bound = omega (arith, R .bound); same = λ i j a b c d. R .same i j a (omega arith) c (omega arith) }
 
 -- w stands at none of these positions
 abbrev pub Outside : (ℕ → ℕ) → (first last w : ℕ) → Type 0
@@ -38,7 +42,7 @@ pub record Inside (at : ℕ → ℕ) (first last w : ℕ) : Type 0 where
   pub before : position < last
   pub here : at position ≡ w
 
-module _ (at : ℕ → ℕ) (m : ℕ) (O : Ordered at m) where
+module _ (at : ℕ → ℕ) (m size : ℕ) (O : Ordered at m size) where
   one-place : (i j : ℕ) → i < m → j < m → at i ≡ at j → i ≡ j
   one-place i j li lj e = go (decLt i j) (decLt j i)
     where
@@ -47,9 +51,25 @@ module _ (at : ℕ → ℕ) (m : ℕ) (O : Ordered at m) where
       go (no l) (yes r) = absurd (O .apart j i r li (sym e))
       go (no l) (no r) = omega arith
 
+  -- the empty set is the first
+  pub first-empty : 0 < size → at 0 ≡ 0
+  first-empty some = let (i, l, e) = O .found 0 some in go (ℕ-discrete (at 0) 0) i l e
+    where
+      go : Dec (at 0 ≡ 0) → (i : ℕ) → i < m → at i ≡ 0 → at 0 ≡ 0
+      go (yes q) i l e = q
+      go (no ne) i l e = absurd (omega (arith, ones-pos (at 0) (omega arith), O .rises 0 i (omega arith) l, ap ones e, ones-empty))
+
+  -- and the only one that is empty
+  pub not-empty : (i : ℕ) → 0 < i → i < m → 0 < at i
+  not-empty i pos l = go (ℕ-discrete (at i) 0)
+    where
+      go : Dec (at i ≡ 0) → 0 < at i
+      go (yes e) = absurd (O .apart 0 i pos l (first-empty (omega (arith, O .below i l)) ∙ sym e))
+      go (no ne) = omega arith
+
   module _ (first last : ℕ) (R : OneSize at m first last) where
-    -- a number below m stands inside or outside
-    pub inside-or-out : (w : ℕ) → w < m → Inside at first last w ⊎ Outside at first last w
+    -- a number below `size` stands inside or outside
+    pub inside-or-out : (w : ℕ) → w < size → Inside at first last w ⊎ Outside at first last w
     inside-or-out w l = let (i, li, e) = O .found w l in go i li e (decLt i first) (decLt i last)
       where
         go : (i : ℕ) → i < m → at i ≡ w → Dec (i < first) → Dec (i < last) → Inside at first last w ⊎ Outside at first last w
@@ -74,3 +94,67 @@ module _ (at : ℕ → ℕ) (m : ℕ) (O : Ordered at m) where
             let le = part-le y (at i) p in
             let less = proper-part-size (at i) y p (omega arith) in
             omega (arith, O .rises i j (omega arith) (omega (arith, R .bound)), ap ones q)
+
+-- ---- where a range ends
+
+-- the subsets at the positions from `first` up to `last` have this size
+pub record SizeTo (at : ℕ → ℕ) (m first last size : ℕ) : Type 0 where
+  pub rising : first < last
+  pub bound : last ≤ m
+  pub each : (i : ℕ) → first ≤ i → i < last → ones (at i) ≡ size
+
+-- the range ends with the order, or before a set of another size
+pub record SizeEnd (at : ℕ → ℕ) (m first last : ℕ) : Type 0 where
+  pub rising : first < last
+  pub range : OneSize at m first last
+  pub ends : (last ≡ m) ⊎ (ones (at last) ≢ ones (at first))
+
+module _ {at : ℕ → ℕ} {m first : ℕ} where
+  pub size-first : {size : ℕ} → first < m → size ≡ ones (at first) → SizeTo at m first (first + 1) size
+  size-first {size} l q = record {
+    rising = omega arith;
+    bound = omega arith;
+    each = λ i f g. let s : i ≡ first = omega arith in ap (λ (x : ℕ). ones (at x)) s ∙ sym q;
+  }
+
+  module _ {last size : ℕ} (S : SizeTo at m first last size) where
+    pub size-next : {other : ℕ} → last < m → other ≡ ones (at last) → other ≡ size → SizeTo at m first (last + 1) size
+    size-next {other} l q same = record {
+      rising = omega (arith, S .rising);
+      bound = omega arith;
+      each = λ i f g. go i f g (ℕ-discrete i last);
+    }
+      where
+        go : (i : ℕ) → first ≤ i → i < last + 1 → Dec (i ≡ last) → ones (at i) ≡ size
+        go i f g (yes s) = ap (λ (x : ℕ). ones (at x)) s ∙ sym q ∙ same
+        go i f g (no ne) = S .each i f (omega arith)
+
+    size-range : OneSize at m first last
+    size-range = record {
+      rising = omega (arith, S .rising);
+      bound = S .bound;
+      same = λ i j a b c d. S .each i a b ∙ sym (S .each j c d);
+    }
+
+    pub size-end : m ≤ last → SizeEnd at m first last
+    size-end l = record { rising = S .rising; range = size-range; ends = inl (omega (arith, S .bound)) }
+
+    pub size-other : {other : ℕ} → other ≡ ones (at last) → other ≢ size → SizeEnd at m first last
+    size-other q ne = record {
+      rising = S .rising;
+      range = size-range;
+      ends = inr (λ z. ne (q ∙ z ∙ S .each first (omega arith) (S .rising)));
+    }
+
+-- ---- the first entries of a table
+
+pub taken-order : {size : ℕ} (count : ℕ) (sets : List ℕ) → Ordered (entryOf sets) count size → Ordered (entryOf (take count sets)) count size
+taken-order count sets O = record {
+  rises = λ i j le l. omega (arith, O .rises i j le l, ap ones (at i (omega arith)), ap ones (at j l));
+  apart = λ i j lt l e. O .apart i j lt l (sym (at i (omega arith)) ∙ e ∙ at j l);
+  below = λ i l. omega (arith, O .below i l, at i l);
+  found = λ w l. let (i, li, e) = O .found w l in (i, li, at i li ∙ e);
+}
+  where
+    at : (i : ℕ) → i < count → entryOf (take count sets) i ≡ entryOf sets i
+    at i l = getD-take count sets i 0 l

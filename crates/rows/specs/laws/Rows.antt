@@ -6,7 +6,7 @@ use mathlib.Core.Logic.{_≢_}
 use mathlib.Core.List.{List, _++_, map}
 use native.Mathlib.Omega.{arith}
 use native.Mathlib.Decide.{ℕ-discrete, decLt}
-use native.Mathlib.Nat.{mul-le-mul, mul-le-mul-right, suc-mul}
+use native.Mathlib.Nat.{mul-le-mul}
 use lib.Arith.{digits-lt}
 use lib.ListN.{length, getD, take, drop, length-append, length-drop, List·getD-append}
 use lib.Seq.{getD-take, getD-drop, getD-append-add, length-take-le, ext-getD}
@@ -14,7 +14,8 @@ use Rattle.limits.specs.Limits.{maxNodes, maxSubsets}
 use Rattle.lists.specs.Numbers.{numbers}
 use Rattle.landing_entries.specs.Entries.{terminalsIn}
 use Rattle.cost_table.specs.Cells.{cellIn}
-use Rattle.working_none.specs.laws.Low.{entry, AllLow}
+use Rattle.cost_table.specs.laws.Rows.{row-fits}
+use Rattle.working_none.specs.laws.Low.{entry}
 use Rattle.rows.specs.laws.Start.{startCell}
 
 -- the cells of node v
@@ -75,10 +76,6 @@ module _ (a k : ℕ) (list part : List ℕ) (so-many : length part ≡ k) (fits 
       ∙ getD-append-add part (drop k (drop a list)) j 0
       ∙ getD-drop k (drop a list) j 0 ∙ getD-drop a list (k + j) 0 ∙ ap (entry list) back
 
--- the rows of n nodes fill n * size cells
-pub row-fits : (v n size : ℕ) → v < n → v * size + size ≤ n * size
-row-fits v n size l = let h = mul-le-mul-right size l in omega (arith, suc-mul v size)
-
 -- and places are small
 pub row-small : (v n size : ℕ) → v < n → n ≤ maxNodes → size ≤ maxSubsets → (v * size + size ≤ n * size) × (n * size ≤ maxNodes * maxSubsets)
 row-small v n size l few sets = (row-fits v n size l, mul-le-mul few sets)
@@ -89,12 +86,6 @@ module _ (size : ℕ) (cells : List ℕ) (u : ℕ) where
 
   pub row-entry : (w : ℕ) → w < size → entry (rowOf cells size u) w ≡ cellIn cells size u w
   row-entry w l = getD-take size (drop (u * size) cells) w 0 l ∙ getD-drop (u * size) cells w 0
-
-  -- no cell of a row is above "none" where none of the table is
-  pub row-low : u * size + size ≤ length cells → AllLow cells → AllLow (rowOf cells size u)
-  row-low fits low w l =
-      let small : w < size = omega (arith, row-length fits) in
-      omega (arith, row-entry w small, low (u * size + w) (omega arith))
 
 -- two tables with the same cells of a node have the same row
 same-row : (size u : ℕ) (a b : List ℕ) → u * size + size ≤ length a → u * size + size ≤ length b
@@ -125,9 +116,6 @@ module _ {R : ℕ → List ℕ → List ℕ → Type 0} {n size : ℕ} {before :
 
     pub lent-length : length (take (v * size + size - v * size) (drop (v * size) mid)) ≡ size
     lent-length = ap length row-lent ∙ row-length size before v (omega (arith, fits v on, S .same-length))
-
-    pub lent-low : AllLow before → AllLow (take (v * size + size - v * size) (drop (v * size) mid))
-    lent-low low = subst AllLow (sym row-lent) (row-low size before v (omega (arith, fits v on, S .same-length)) low)
 
     pub rows-next : {row : List ℕ} → length row ≡ length (take (v * size + size - v * size) (drop (v * size) mid))
         → R v (take (v * size + size - v * size) (drop (v * size) mid)) row

@@ -15,8 +15,7 @@ use Rattle.graph.specs.ClosedSupported.{Support, by-arc, by-split, Supported, C
 use Rattle.graph.specs.Theorems.{closed-and-supported, tries-start-set, lowering-keeps-started, pass-closes-set, others-keep-closed}
 use Rattle.graph.specs.laws.Lowering.{support-lower}
 use Rattle.order_ranges.specs.laws.Ranges.{Ordered, OneSize, Outside, Inside, inside-or-out, part-outside, earlier-outside}
-use Rattle.settling.specs.laws.ClosedOver.{ArcFrom}
-use Rattle.columns.specs.laws.ClosedCells.{ClosedSets}
+use Rattle.settling.specs.laws.ClosedOver.{ArcFrom, ClosedOver}
 use Rattle.splits.specs.laws.BestSplit.{BestSplit, SplitAt}
 
 -- the sets at positions below p are closed, and those from p up to q are started
@@ -33,18 +32,23 @@ pub record Filling (G : Graph) (top : ℕ) (at : ℕ → ℕ) (p q : ℕ) (c : �
 -- each cell of the sets at these positions becomes the least of itself and of its splits; the other cells stay
 pub record SplitSets (G : Graph) (at : ℕ → ℕ) (first last : ℕ) (c d : ℕ → ℕ → ℕ) : Type 0 where
   pub others : (v w : ℕ) → v < G .nodes → w < 2 ^ G .terminals → Outside at first last w → d v w ≡ c v w
-  pub each : (v i : ℕ) → v < G .nodes → first ≤ i → i < last → at i < 2 ^ G .terminals → BestSplit (c v) (at i) (d v (at i))
+  pub each : (v i : ℕ) → v < G .nodes → first ≤ i → i < last → BestSplit (c v) (at i) (d v (at i))
+
+-- the cells of each set at these positions are closed over the arcs; the other cells stay
+pub record ClosedSets (G : Graph) (at : ℕ → ℕ) (first last : ℕ) (c d : ℕ → ℕ → ℕ) : Type 0 where
+  pub others : (v w : ℕ) → v < G .nodes → w < 2 ^ G .terminals → Outside at first last w → d v w ≡ c v w
+  pub each : (i : ℕ) → first ≤ i → i < last → ClosedOver (G .nodes) (G .arcs) (G .start) (G .end) (G .weight) (λ v. c v (at i)) (λ v. d v (at i))
 
 -- ---- what it is afterwards
 
-module _ (G : Graph) (sound : Sound G) (free : (v : ℕ) → G .charge v ≡ 0) (top : ℕ) (at : ℕ → ℕ) (m : ℕ) (O : Ordered at m) (many : 2 ^ G .terminals ≤ m)
+module _ (G : Graph) (sound : Sound G) (free : (v : ℕ) → G .charge v ≡ 0) (top : ℕ) (at : ℕ → ℕ) (m : ℕ) (O : Ordered at m (2 ^ G .terminals))
     (first last : ℕ) (R : OneSize at m first last) (c d : ℕ → ℕ → ℕ) where
   -- a change of cells at these positions that raises none
   module _ (F : Filling G top at first first c)
       (others : (v w : ℕ) → v < G .nodes → w < 2 ^ G .terminals → Outside at first last w → d v w ≡ c v w)
       (low : (v i : ℕ) → v < G .nodes → first ≤ i → i < last → at i < 2 ^ G .terminals → d v (at i) ≤ c v (at i)) where
     lower : (v w : ℕ) → v < G .nodes → w < 2 ^ G .terminals → d v w ≤ c v w
-    lower v w on small = go (inside-or-out at m O first last R w (omega arith))
+    lower v w on small = go (inside-or-out at m (2 ^ G .terminals) O first last R w small)
       where
         go : Inside at first last w ⊎ Outside at first last w → d v w ≤ c v w
         go (inl i) = subst (λ (x : ℕ). d v x ≤ c v x) (i .here) (low v (i .position) on (i .from) (i .before) (omega (arith, i .here)))
@@ -53,10 +57,10 @@ module _ (G : Graph) (sound : Sound G) (free : (v : ℕ) → G .charge v ≡ 0) 
     -- proper parts of a set of the range, and parts of a set before it, stay
     part-same : (i : ℕ) → first ≤ i → i < last → at i < 2 ^ G .terminals → (v y : ℕ) → v < G .nodes → Part y (at i) → y ≢ at i → d v y ≡ c v y
     part-same i f g small v y on p ne =
-        others v y on (omega (arith, part-le y (at i) p)) (part-outside at m O first last R i y f g p ne)
+        others v y on (omega (arith, part-le y (at i) p)) (part-outside at m (2 ^ G .terminals) O first last R i y f g p ne)
 
     earlier-same : (i : ℕ) → i < first → at i < 2 ^ G .terminals → (v y : ℕ) → v < G .nodes → Part y (at i) → d v y ≡ c v y
-    earlier-same i l small v y on p = others v y on (omega (arith, part-le y (at i) p)) (earlier-outside at m O first last R i y l p)
+    earlier-same i l small v y on p = others v y on (omega (arith, part-le y (at i) p)) (earlier-outside at m (2 ^ G .terminals) O first last R i y l p)
 
     -- a support of a cost stays one
     kept-support : (v w x : ℕ) → v < G .nodes → w < 2 ^ G .terminals → Support G c top v w x → Support G d top v w x
@@ -66,7 +70,7 @@ module _ (G : Graph) (sound : Sound G) (free : (v : ℕ) → G .charge v ≡ 0) 
     -- the table is supported where each cell at these positions is
     still-supported : ((v i : ℕ) → v < G .nodes → first ≤ i → i < last → at i ≢ 0 → at i < 2 ^ G .terminals → d v (at i) < top
         → Support G d top v (at i) (d v (at i))) → Supported G d top
-    still-supported each v w on ne small finite = go (inside-or-out at m O first last R w (omega arith))
+    still-supported each v w on ne small finite = go (inside-or-out at m (2 ^ G .terminals) O first last R w small)
       where
         go : Inside at first last w ⊎ Outside at first last w → Support G d top v w (d v w)
         go (inl i) =
@@ -101,10 +105,10 @@ module _ (G : Graph) (sound : Sound G) (free : (v : ℕ) → G .charge v ≡ 0) 
       }
     where
       low : (v i : ℕ) → v < G .nodes → first ≤ i → i < last → at i < 2 ^ G .terminals → d v (at i) ≤ c v (at i)
-      low v i on f g small = S .each v i on f g small .low
+      low v i on f g small = S .each v i on f g .low
 
       supports : (v i : ℕ) → v < G .nodes → first ≤ i → i < last → at i ≢ 0 → at i < 2 ^ G .terminals → d v (at i) < top → Support G d top v (at i) (d v (at i))
-      supports v i on f g ne small finite = go (S .each v i on f g small .from)
+      supports v i on f g ne small finite = go (S .each v i on f g .from)
         where
           go : (d v (at i) ≡ c v (at i)) ⊎ SplitAt (c v) (at i) (d v (at i)) → Support G d top v (at i) (d v (at i))
           go (inl e) =
@@ -132,12 +136,12 @@ module _ (G : Graph) (sound : Sound G) (free : (v : ℕ) → G .charge v ≡ 0) 
           let back : w - (w - y) ≡ y = omega arith in
           let sy : d v y ≡ c v y = part-same F (S .others) low i f g small v y on p (λ e. omega arith) in
           let sz : d v (w - y) ≡ c v (w - y) = part-same F (S .others) low i f g small v (w - y) on q (λ e. ny (omega arith)) in
-          omega (arith, S .each v i on f g small .least (w - y) q (omega arith) (omega arith), ap (c v) back, free v))
+          omega (arith, S .each v i on f g .least (w - y) q (omega arith) (omega arith), ap (c v) back, free v))
           (λ v on. still-capped F (S .others) low v (at i) on small)
           (λ v y on ny p. omega (arith, free v))
 
   -- the closing of the same size
-  pub closing : Filling G top at first last c → ClosedSets (G .nodes) (G .arcs) (2 ^ G .terminals) (G .start) (G .end) (G .weight) at first last c d
+  pub closing : Filling G top at first last c → ClosedSets G at first last c d
       → Filling G top at last last d
   closing F S =
       record {
@@ -160,10 +164,10 @@ module _ (G : Graph) (sound : Sound G) (free : (v : ℕ) → G .charge v ≡ 0) 
       }
 
       low : (v i : ℕ) → v < G .nodes → first ≤ i → i < last → at i < 2 ^ G .terminals → d v (at i) ≤ c v (at i)
-      low v i on f g small = S .each i f g small .low v on
+      low v i on f g small = S .each i f g .low v on
 
       supports : (v i : ℕ) → v < G .nodes → first ≤ i → i < last → at i ≢ 0 → at i < 2 ^ G .terminals → d v (at i) < top → Support G d top v (at i) (d v (at i))
-      supports v i on f g ne small finite = go (S .each i f g small .from v on)
+      supports v i on f g ne small finite = go (S .each i f g .from v on)
         where
           go : (d v (at i) ≡ c v (at i)) ⊎ ArcFrom (G .arcs) (G .start) (G .end) (G .weight) (λ u. d u (at i)) v → Support G d top v (at i) (d v (at i))
           go (inl e) =
@@ -178,18 +182,18 @@ module _ (G : Graph) (sound : Sound G) (free : (v : ℕ) → G .charge v ≡ 0) 
           (lowering-keeps-started G c d (at i) (λ v y on p n. part-same F' (S .others) low i (omega arith) l small v y on p n)
           (λ v on. low v i on (omega arith) l small) (F .started i (omega arith) l small))
           (λ v on. still-capped F' (S .others) low v (at i) on small)
-          (λ e le finite. omega (arith, S .each i (omega arith) l small .closed e le, free (G .start e)))
+          (λ e le finite. omega (arith, S .each i (omega arith) l .closed e le, free (G .start e)))
 
 -- in the end
-pub filled : (G : Graph) → Sound G → (top : ℕ) → Room G top → (at : ℕ → ℕ) (m : ℕ) → Ordered at m → 2 ^ G .terminals ≤ m
+pub filled : (G : Graph) → Sound G → (top : ℕ) → Room G top → (at : ℕ → ℕ) (m : ℕ) → Ordered at m (2 ^ G .terminals)
     → (c : ℕ → ℕ → ℕ) → Filling G top at m m c → IsCostTable G c top
-filled G sound top room at m O many c F =
+filled G sound top room at m O c F =
     closed-and-supported G sound c top room .0 (
       F .capped,
       record {
         nothing = F .nothing;
         sets = λ w ne small.
-            let (i, l, e) = O .found w (omega arith) in
+            let (i, l, e) = O .found w small in
             subst (ClosedSet G c) e (F .closed i l (λ z. ne (sym e ∙ z)) (omega arith));
       },
       F .supported,

@@ -1,7 +1,7 @@
 -- The search from its start to its end: the table that is filled is the cost table.
 -- Assumes nothing.
-use Prim.Native.Nat.{ℕ, _+_, _-_, _*_, _^_, _≤_, _<_}
-use mathlib.Core.Path.{_≡_, refl, sym, ap, ap₂, _∙_, subst}
+use Prim.Native.Nat.{ℕ, _+_, _*_, _^_, _≤_, _<_}
+use mathlib.Core.Path.{_≡_, refl, sym, ap, ap₂, _∙_, subst, subst₂}
 use mathlib.Core.Logic.{_⊎_, inl, inr}
 use mathlib.Core.List.{List, _++_, map}
 use mathlib.Core.Bool.{Bool, true, false, cond}
@@ -19,8 +19,6 @@ use Rattle.lists.specs.Over.{over}
 use Rattle.subset.specs.Sets.{single}
 use Rattle.landing_entries.specs.Entries.{terminalsIn}
 use Rattle.subset.specs.laws.Terminals.{has-lt}
-use Rattle.subset.specs.laws.Parts.{part-le}
-use Rattle.order.specs.Order.{inOrder}
 use Rattle.lent_tables.specs.SheetTables.{SheetTables, arcTablesOf, arcs-long}
 use Rattle.graph.specs.LeastTotals.{leastTotal, IsLeastTotal, leastCell, IsCostTable, Room}
 use Rattle.graph.specs.Theorems.{least-total-is-least}
@@ -29,18 +27,18 @@ use Rattle.graph.specs.HeldGraph.{graphIn, start-in, end-in, weight-in, landing
 use Rattle.graph.specs.ClosedSupported.{by-landing}
 use Rattle.graph.specs.laws.LeastMeaning.{room-above}
 use Rattle.cost_table.specs.Cells.{cellIn, costTable}
-use Rattle.cost_table.specs.laws.Rows.{length-cells, cells-are}
+use Rattle.cost_table.specs.laws.Rows.{row-fits, length-cells, cells-are}
 use Rattle.working_none.specs.laws.WorkingNone.{finished-below, workingNone, finished}
 use Rattle.working_none.specs.laws.Low.{entry, AllLow}
-use Rattle.order_ranges.specs.laws.Ranges.{OneSize}
-use Rattle.order_ranges.specs.laws.InOrder.{in-order, first-empty, OrderTable}
+use Rattle.order_ranges.specs.laws.Ranges.{entryOf, Ordered, OneSize, first-empty, taken-order}
 use Rattle.settling.specs.laws.ClosedOver.{ArcFrom, ClosedOver}
 use Rattle.settling.specs.laws.Arcs.{startAt, endAt, weightAt, ArcTables}
-use Rattle.columns.specs.laws.ClosedCells.{cells-low, SetsClosed}
+use Rattle.arc_index.specs.laws.Indexed.{Indexed}
+use Rattle.columns.specs.laws.Searched.{Tables, cells-low}
+use Rattle.columns.specs.laws.ClosedCells.{SetsClosed}
 use Rattle.rows.specs.laws.Start.{startCell, start-landing, start-le, start-finite}
-use Rattle.rows.specs.laws.Rows.{rowOf, StartRow, EachRow, row-fits, row-length, row-entry}
-use Rattle.splits.specs.laws.BestSplit.{BestSplit, best-split-same}
-use Rattle.splits.specs.laws.SplitRow.{SplitRow}
+use Rattle.rows.specs.laws.Rows.{rowOf, StartRow, EachRow, row-length, row-entry}
+use Rattle.splits.specs.laws.SplitRows.{SplitTo}
 use Rattle.search.specs.laws.Filling.{Filling, splitting, closing, filled}
 use Rattle.search.specs.Searchable.{Searchable}
 
@@ -72,10 +70,20 @@ module _ {n k m : ℕ} {t : SheetTables} (S : Searchable n k m t) where
   pub few-sets : 2 ^ k ≤ maxSubsets
   few-sets = pow-mono {j = maxTerminals} (S .few-terminals)
 
+  -- the index, by the ends as a program reads them
+  pub index-in : {byEnd places : List ℕ} → Indexed n m (G .end) byEnd places → Indexed n m (endAt t) byEnd places
+  index-in I = record {
+    by-end-long = I .by-end-long;
+    places-long = I .places-long;
+    place-le = I .place-le;
+    group = λ v i on from to. let (arc, ends) = I .group v i on from to in (arc, sym (end-in n k m t _ arc) ∙ ends);
+  }
+
   module _ {size : ℕ} (is : size ≡ 2 ^ k) where
     -- ---- the start
 
-    module _ {before cells : List ℕ} (whole : length before ≡ n * size) (E : EachRow (StartRow (t .landings)) n size n before cells) where
+    module _ {at : ℕ → ℕ} {count : ℕ} (O : Ordered at count (2 ^ k)) {before cells : List ℕ} (whole : length before ≡ n * size)
+        (E : EachRow (StartRow (t .landings)) n size n before cells) where
       start-cells : (v w : ℕ) → v < n → w < size → cellIn cells size v w ≡ startCell (G .landings v) w
       start-cells v w on small =
           let fits = row-fits v n size on in
@@ -86,7 +94,7 @@ module _ {n k m : ℕ} {t : SheetTables} (S : Searchable n k m t) where
           ∙ ap f (zero-add w)
           ∙ ap (λ (x : ℕ). startCell x w) (sym (landings-in n k m t v on))
 
-      pub fill-start : Filling G workingNone inOrder 1 1 (cellIn cells size)
+      pub fill-start : Filling G workingNone at 1 1 (cellIn cells size)
       fill-start = record {
         nothing = λ v on. start-cells v 0 on (omega (arith, pow-pos k));
         landed = λ v i on l here. start-cells v (single i) on (omega (arith, pow-lt l)) ∙ start-landing (G .landings v) i here;
@@ -94,48 +102,33 @@ module _ {n k m : ℕ} {t : SheetTables} (S : Searchable n k m t) where
         supported = λ v w on ne small finite.
             let one = start-finite (G .landings v) w ne (omega (arith, start-cells v w on (omega arith))) in
             by-landing (one .terminal) (has-lt k w (one .terminal) small (one .own)) (one .alone) (one .landing) (omega arith);
-        closed = λ i l ne small. absurd (ne (ap inOrder (let z : i ≡ 0 = omega arith in z) ∙ first-empty));
+        closed = λ i l ne small. absurd (ne (ap at (let z : i ≡ 0 = omega arith in z) ∙ first-empty at count (2 ^ k) O (pow-pos k)));
         started = λ i f g small. absurd (omega arith);
       }
 
     -- ---- one size
 
-    module _ {first last : ℕ} (R : OneSize inOrder maxSubsets first last) {before after : List ℕ} where
-      pub fill-split : length before ≡ n * size → Filling G workingNone inOrder first first (cellIn before size)
-          → EachRow (λ v. SplitRow inOrder first last) n size n before after → Filling G workingNone inOrder first last (cellIn after size)
-      fill-split whole F E =
-          splitting G (S .sound) (λ v. refl) workingNone inOrder maxSubsets in-order few-sets first last R (cellIn before size) (cellIn after size) F
+    module _ {at : ℕ → ℕ} {count : ℕ} (O : Ordered at count (2 ^ k)) {first last : ℕ} (R : OneSize at count first last) {before after : List ℕ} where
+      pub fill-split : Filling G workingNone at first first (cellIn before size) → SplitTo at first last n size n before after
+          → Filling G workingNone at first last (cellIn after size)
+      fill-split F E =
+          splitting G (S .sound) (λ v. refl) workingNone at count O first last R (cellIn before size) (cellIn after size) F
           (record {
-            others = λ v w on small out.
-                sym (row-entry size after v w (omega arith)) ∙ E .done v on .others w out ∙ row-entry size before v w (omega arith);
-            each = best;
+            others = λ v w on small out. E .done v on on .others w (omega arith) out;
+            each = λ v i on f g. E .done v on on .each i f g;
           })
-        where
-          long : (v : ℕ) → v < n → length (rowOf before size v) ≡ size
-          long v on = let fits = row-fits v n size on in row-length size before v (omega arith)
 
-          best : (v i : ℕ) → v < n → first ≤ i → i < last → inOrder i < 2 ^ k → BestSplit (cellIn before size v) (inOrder i) (cellIn after size v (inOrder i))
-          best v i on f g small =
-              best-split-same (entry (rowOf before size v)) (cellIn before size v) (inOrder i) (entry (rowOf after size v) (inOrder i))
-              (cellIn after size v (inOrder i))
-              (row-entry size before v (inOrder i) (omega arith))
-              (λ y part ny ne. let le = part-le y (inOrder i) part in row-entry size before v y (omega arith))
-              (λ y part ny ne. let le = part-le y (inOrder i) part in row-entry size before v (inOrder i - y) (omega arith))
-              (row-entry size after v (inOrder i) (omega arith))
-              (E .done v on .each i f g (omega (arith, long v on)))
-
-      pub fill-close : Filling G workingNone inOrder first last (cellIn before size) → SetsClosed n m size (arcTablesOf t) inOrder first last before after
-          → Filling G workingNone inOrder last last (cellIn after size)
+      pub fill-close : Filling G workingNone at first last (cellIn before size) → SetsClosed n m size (arcTablesOf t) at first last last before after
+          → Filling G workingNone at last last (cellIn after size)
       fill-close F C =
-          closing G (S .sound) (λ v. refl) workingNone inOrder maxSubsets in-order few-sets first last R (cellIn before size) (cellIn after size) F
+          closing G (S .sound) (λ v. refl) workingNone at count O first last R (cellIn before size) (cellIn after size) F
           (record {
-            others = λ v w on small out. C .sets .others v w on (omega arith) out;
-            each = λ i f g small. on-graph i (C .sets .each i f g (omega arith));
+            others = λ v w on small out. C .others v w on (omega arith) out;
+            each = λ i f g. on-graph i (C .each i f g g);
           })
         where
-          on-graph : (i : ℕ) → ClosedOver n m (startAt t) (endAt t) (weightAt t) (λ v. cellIn before size v (inOrder i))
-              (λ v. cellIn after size v (inOrder i))
-              → ClosedOver n m (G .start) (G .end) (G .weight) (λ v. cellIn before size v (inOrder i)) (λ v. cellIn after size v (inOrder i))
+          on-graph : (i : ℕ) → ClosedOver n m (startAt t) (endAt t) (weightAt t) (λ v. cellIn before size v (at i)) (λ v. cellIn after size v (at i))
+              → ClosedOver n m (G .start) (G .end) (G .weight) (λ v. cellIn before size v (at i)) (λ v. cellIn after size v (at i))
           on-graph i D = record {
             low = D .low;
             from = λ v on. go v (D .from v on);
@@ -144,15 +137,15 @@ module _ {n k m : ℕ} {t : SheetTables} (S : Searchable n k m t) where
                   arith,
                   D .closed e l,
                   weight-in n k m t e l,
-                  ap (λ (u : ℕ). cellIn after size u (inOrder i)) (start-in n k m t e l),
-                  ap (λ (u : ℕ). cellIn after size u (inOrder i)) (end-in n k m t e l),
+                  ap (λ (u : ℕ). cellIn after size u (at i)) (start-in n k m t e l),
+                  ap (λ (u : ℕ). cellIn after size u (at i)) (end-in n k m t e l),
                 );
           }
             where
-              go : (v : ℕ) → (cellIn after size v (inOrder i) ≡ cellIn before size v (inOrder i))
-                  ⊎ ArcFrom m (startAt t) (endAt t) (weightAt t) (λ u. cellIn after size u (inOrder i)) v
-                  → (cellIn after size v (inOrder i) ≡ cellIn before size v (inOrder i)) ⊎ ArcFrom m (G .start) (G .end) (G .weight)
-                  (λ u. cellIn after size u (inOrder i)) v
+              go : (v : ℕ) → (cellIn after size v (at i) ≡ cellIn before size v (at i))
+                  ⊎ ArcFrom m (startAt t) (endAt t) (weightAt t) (λ u. cellIn after size u (at i)) v
+                  → (cellIn after size v (at i) ≡ cellIn before size v (at i)) ⊎ ArcFrom m (G .start) (G .end) (G .weight)
+                  (λ u. cellIn after size u (at i)) v
               go v (inl e) = inl e
               go v (inr h) = inr (record {
                 arc = h .arc;
@@ -162,15 +155,15 @@ module _ {n k m : ℕ} {t : SheetTables} (S : Searchable n k m t) where
                   arith,
                   h .gives,
                   weight-in n k m t (h .arc) (h .on-graph),
-                  ap (λ (u : ℕ). cellIn after size u (inOrder i)) (end-in n k m t (h .arc) (h .on-graph)),
+                  ap (λ (u : ℕ). cellIn after size u (at i)) (end-in n k m t (h .arc) (h .on-graph)),
                 );
               })
 
     -- no entry of the list of cells is above "none"
-    pub fill-low : {p q : ℕ} (cells : List ℕ) → length cells ≡ n * size → Filling G workingNone inOrder p q (cellIn cells size) → AllLow cells
+    fill-low : {at : ℕ → ℕ} {p q : ℕ} (cells : List ℕ) → length cells ≡ n * size → Filling G workingNone at p q (cellIn cells size) → AllLow cells
     fill-low cells whole F = cells-low n size cells whole (λ v w on small. F .capped v w on (omega arith))
 
-    -- ---- what is asked of the cells, and of a column with an entry for each node
+    -- ---- what is asked of the cells and the lanes
 
     size-few : size ≤ maxSubsets
     size-few = omega (arith, few-sets)
@@ -179,44 +172,40 @@ module _ {n k m : ℕ} {t : SheetTables} (S : Searchable n k m t) where
         → (n ≤ maxNodes) × (size ≤ maxSubsets) × (length cells ≡ n * size) × (n ≤ length (t .landings))
     start-asked cells whole = (S .few-nodes, size-few, whole ∙ ap (λ (x : ℕ). n * x) (sym is), S .long .landings)
 
-    module _ {first last : ℕ} (R : OneSize inOrder maxSubsets first last) where
-      pub split-asked : {sets : List ℕ} (cells : List ℕ) → OrderTable sets → length cells ≡ n * size → 0 < first
-          → Filling G workingNone inOrder first first (cellIn cells size)
-          → OrderTable sets × (n ≤ maxNodes) × (size ≤ maxSubsets) × (length cells ≡ n * size) × (0 < first) × OneSize inOrder maxSubsets first last ×
-          AllLow cells
-      split-asked cells order whole pos F = (order, S .few-nodes, size-few, whole, pos, R, fill-low cells whole F)
+    -- there is a set, the empty one
+    pub some-set : {at : ℕ → ℕ} {count : ℕ} → Ordered at count (2 ^ k) → 1 ≤ count
+    some-set O = let (i, l, e) = O .found 0 (pow-pos k) in omega arith
+
+    -- the order, of `size` sets
+    pub sets-in : {at : ℕ → ℕ} {count : ℕ} → Ordered at count (2 ^ k) → Ordered at count size
+    sets-in {at} {count} O = subst (Ordered at count) (sym is) O
+
+    module _ {at : ℕ → ℕ} {count : ℕ} (O : Ordered at count (2 ^ k)) {first last : ℕ} (R : OneSize at count first last) where
+      pub split-asked : (cells : List ℕ) → length cells ≡ n * size → 0 < first → Filling G workingNone at first first (cellIn cells size)
+          → Ordered at count size × OneSize at count first last × (0 < first) × (n ≤ maxNodes) × (size ≤ maxSubsets) × (length cells ≡ n * size)
+          × AllLow cells
+      split-asked cells whole pos F = (sets-in O, R, pos, S .few-nodes, size-few, whole, fill-low cells whole F)
 
       -- after the splits
-      pub close-asked : (before cells column : List ℕ) → length column ≡ n → length before ≡ n * size
-          → Filling G workingNone inOrder first first (cellIn before size)
-          → EachRow (λ v. SplitRow inOrder first last) n size n before cells
-          → OneSize inOrder maxSubsets first last × (length cells ≡ length column * size) × ArcTables (length column) m (arcTablesOf t) × AllLow cells
-          × (size ≤ maxSubsets)
-      close-asked before cells column so-many whole F E =
-          let all : length cells ≡ n * size = E .same-length ∙ whole in (
-            R,
-            all ∙ ap (λ (x : ℕ). x * size) (sym so-many),
-            subst (λ (x : ℕ). ArcTables x m (arcTablesOf t)) (sym so-many) arc-tables,
-            fill-low cells all (fill-split R whole F E),
-            size-few,
-          )
+      pub close-asked : (before cells lanes : List ℕ) {byEnd places : List ℕ} → Indexed n m (G .end) byEnd places → length lanes ≡ n * 4 → length before ≡ n * size
+          → Filling G workingNone at first first (cellIn before size) → SplitTo at first last n size n before cells
+          → Tables n m size (arcTablesOf t) byEnd places cells lanes
+      close-asked before cells lanes I wide whole F E =
+          let all : length cells ≡ n * size = E .same-length ∙ whole in
+          record { arcs = arc-tables; index = index-in I; whole = all; low = fill-low cells all (fill-split O R F E); wide = wide }
 
       -- one size is done
-      pub fill-next : {len : ℕ} {before mid after : List ℕ} → len ≡ n → length before ≡ n * size
-          → Filling G workingNone inOrder first first (cellIn before size)
-          → EachRow (λ v. SplitRow inOrder first last) n size n before mid → SetsClosed len m size (arcTablesOf t) inOrder first last mid after
-          → (length after ≡ n * size) × Filling G workingNone inOrder last last (cellIn after size)
-      fill-next {len} {before} {mid} {after} so-many whole F E C = (
-        C .same-length ∙ E .same-length ∙ whole,
-        fill-close R (fill-split R whole F E) (subst (λ (x : ℕ). SetsClosed x m size (arcTablesOf t) inOrder first last mid after) so-many C),
-      )
+      pub fill-next : {before mid after : List ℕ} → length before ≡ n * size → Filling G workingNone at first first (cellIn before size)
+          → SplitTo at first last n size n before mid → SetsClosed n m size (arcTablesOf t) at first last last mid after
+          → (length after ≡ n * size) × Filling G workingNone at last last (cellIn after size)
+      fill-next whole F E C = (C .same-length ∙ E .same-length ∙ whole, fill-close O R (fill-split O R F E) C)
 
     -- ---- the end
 
-    pub fill-end : {p : ℕ} (before : List ℕ) {after : List ℕ} → maxSubsets ≤ p → p ≤ maxSubsets → length before ≡ n * size
-        → Filling G workingNone inOrder p p (cellIn before size)
+    pub fill-end : {at : ℕ → ℕ} {p count : ℕ} (before : List ℕ) {after : List ℕ} → Ordered at count (2 ^ k) → count ≤ p → p ≤ count → length before ≡ n * size
+        → Filling G workingNone at p p (cellIn before size)
         → after ≡ map (λ i. finished (entry before i)) (numbers 0 (length before)) → after ≡ costTable G noCost
-    fill-end {p} before {after} high low whole F done =
+    fill-end {at} {p} {count} before {after} O high low whole F done =
         cells-are n (2 ^ k) (leastCell G noCost) after
         (ap length done ∙ length-values (λ i. finished (entry before i)) 0 (length before) ∙ whole ∙ ap (λ (x : ℕ). n * x) is)
         (λ v w on small. ap (λ (x : ℕ). cellIn after x v w) (sym is) ∙ each v w on (omega arith))
@@ -231,8 +220,8 @@ module _ {n k m : ℕ} {t : SheetTables} (S : Searchable n k m t) where
             ∙ finished-cell G room v w
           where
             table : IsCostTable G (cellIn before size) workingNone
-            table = filled G (S .sound) workingNone room inOrder maxSubsets in-order few-sets (cellIn before size)
-                (subst (λ (x : ℕ). Filling G workingNone inOrder x x (cellIn before size)) (let e : p ≡ maxSubsets = omega arith in e) F)
+            table = filled G (S .sound) workingNone room at count O (cellIn before size)
+                (subst (λ (x : ℕ). Filling G workingNone at x x (cellIn before size)) (let e : p ≡ count = omega arith in e) F)
 
 -- ---- parts of longer tables
 
@@ -241,31 +230,35 @@ module _ {n k m : ℕ} {t : SheetTables} (S : Searchable n k m t) where
   pub total-fits : {size : ℕ} → size ≡ 2 ^ k → n * size ≤ maxNodes * maxSubsets
   total-fits {size} is = let few : size ≤ maxSubsets = omega (arith, few-sets S) in mul-le-mul (S .few-nodes) few
 
+  pub size-fits : {size : ℕ} → size ≡ 2 ^ k → size ≤ maxSubsets
+  size-fits is = omega (arith, few-sets S)
+
   pub total-long : {size len : ℕ} → size ≡ 2 ^ k → n * 2 ^ k ≤ len → n * size ≤ len
   total-long is long = omega (arith, ap (λ (x : ℕ). n * x) is)
 
-  -- what is asked of a part of the cells and a part of the column, where n and so many cells are taken
-  pub fill-asked : {size : ℕ} {sets : List ℕ} → size ≡ 2 ^ k → (cells column : List ℕ) → n * 2 ^ k ≤ length cells → n ≤ length column → OrderTable sets
-      → Searchable (length (take n column)) k m t × (length (take (n * size) cells) ≡ length (take n column) * 2 ^ k) ×
-      OrderTable sets
-  fill-asked {size} is cells column long wide order =
-      let so-many : length (take n column) ≡ n = length-take-le n column wide in (
-        subst (λ (x : ℕ). Searchable x k m t) (sym so-many) S,
-        length-take-le (n * size) cells (total-long is long) ∙ ap (λ (x : ℕ). n * x) is ∙ ap (λ (x : ℕ). x * 2 ^ k) (sym so-many),
-        order,
+  -- what is asked of parts of the sets, the cells and the lanes, where so many are taken
+  pub fill-asked : {size count : ℕ} {byEnd places : List ℕ} → size ≡ 2 ^ k → (sets cells lanes : List ℕ) → n * 2 ^ k ≤ length cells → n * 4 ≤ length lanes
+      → length sets ≡ maxSubsets → (count ≤ maxSubsets) × Ordered (entryOf sets) count size → Indexed n m (graphIn n k m t .end) byEnd places
+      → Searchable n k m t × Indexed n m (graphIn n k m t .end) byEnd places × (length (take (n * size) cells) ≡ n * 2 ^ k)
+      × (length (take (n * 4) lanes) ≡ n * 4) × Ordered (entryOf (take count sets)) (length (take count sets)) (2 ^ k)
+      × (length (take count sets) ≤ maxSubsets)
+  fill-asked {size} {count} is sets cells lanes long wide all (few, order) I =
+      let so-many : length (take count sets) ≡ count = length-take-le count sets (omega arith) in (
+        S,
+        I,
+        length-take-le (n * size) cells (total-long is long) ∙ ap (λ (x : ℕ). n * x) is,
+        length-take-le (n * 4) lanes wide,
+        subst₂ (Ordered (entryOf (take count sets))) (sym so-many) is (taken-order count sets order),
+        omega arith,
       )
 
   -- the first cells are the cost table, and later ones are untouched
-  pub cells-over : {size : ℕ} → size ≡ 2 ^ k → (old column new : List ℕ) → n ≤ length column
-      → new ≡ costTable (graphIn (length (take n column)) k m t) noCost
+  pub cells-over : {size : ℕ} → size ≡ 2 ^ k → (old new : List ℕ) → new ≡ costTable (graphIn n k m t) noCost
       → new ++ drop (n * size) old ≡ over (costTable (graphIn n k m t) noCost) old
-  cells-over {size} is old column new wide e =
-      let table : List ℕ = costTable (graphIn n k m t) noCost in
-      let same : new ≡ table =
-      e ∙ ap (λ (x : ℕ). costTable (graphIn x k m t) noCost) (length-take-le n column wide) in
-      let so-many : n * size ≡ length table =
+  cells-over {size} is old new e =
+      let so-many : n * size ≡ length (costTable (graphIn n k m t) noCost) =
       ap (λ (x : ℕ). n * x) is ∙ sym (length-cells n (2 ^ k) (leastCell (graphIn n k m t) noCost)) in
-      ap₂ (λ (a : List ℕ) (i : ℕ). a ++ drop i old) same so-many
+      ap₂ (λ (a : List ℕ) (i : ℕ). a ++ drop i old) e so-many
 
 -- the first marks are 1, and later ones are untouched
 pub marks-over : (n : ℕ) (old new : List ℕ) → n ≤ length old → new ≡ replicate (length (take n old)) 1 → new ++ drop n old ≡ over (replicate n 1) old

@@ -1,14 +1,19 @@
 -- The least that a set costs at a node by itself or by a split into two parts, from the costs of the sets there; the splits are tried by their
 -- greater part, in falling order.
 -- Assumes nothing.
-use Prim.Native.Nat.{ℕ, _+_, _-_, _≤_, _<_}
-use mathlib.Core.Path.{_≡_, refl, sym, ap₂, _∙_, subst}
+use Prim.Native.Nat.{ℕ, _+_, _-_, _≤_, _<_, min}
+use mathlib.Core.Path.{_≡_, refl, sym, ap, ap₂, _∙_, subst}
 use mathlib.Core.Logic.{_≢_, _⊎_, inl, inr}
+use mathlib.Core.List.{List}
 use native.Mathlib.Omega.{arith}
 use native.Mathlib.Decide.{ℕ-discrete, decLt}
 use lib.Bits.{bitAnd, and-self, and-le-l}
 use Rattle.subset.specs.Sets.{Part}
 use Rattle.subset.specs.laws.Falling.{common-part, next-part}
+use Rattle.cost_table.specs.Cells.{cellIn}
+use Rattle.lanes.specs.declared.Four.{Four}
+use Rattle.lanes.specs.laws.Four.{nth, lessFour, less-nth}
+use Rattle.splits.specs.laws.FourRows.{sumFour, sum-nth, rowsAt, rows-nth}
 
 -- w is split into y and the rest at a cost of r
 pub record SplitAt (f : ℕ → ℕ) (w r : ℕ) : Type 0 where
@@ -101,11 +106,51 @@ module _ (f : ℕ → ℕ) (w : ℕ) where
         makes = e;
       })
 
-  pub tried-next : {Less More : Type 0} (y r s : ℕ) → w < y + y → (Less → f y + f (w - y) < r) → (More → r ≤ f y + f (w - y))
-      → (Less × (s ≡ f y + f (w - y))) ⊎ (More × (s ≡ r)) → Tried f w y r → Tried f w (bitAnd (y - 1) w) s
-  tried-next y r s d less more (inl (t, e)) B = tried-more y r s d (omega (arith, less t), omega arith, inr e) B
-  tried-next y r s d less more (inr (t, e)) B = tried-more y r s d (omega arith, omega (arith, more t), inl e) B
+  pub tried-least : (y r s : ℕ) → w < y + y → s ≡ min (f y + f (w - y)) r → Tried f w y r → Tried f w (bitAnd (y - 1) w) s
+  tried-least y r s d e B = tried-more y r s d (omega arith, omega arith, choose (decLt (f y + f (w - y)) r)) B
+    where
+      choose : Dec (f y + f (w - y) < r) → (s ≡ r) ⊎ (s ≡ f y + f (w - y))
+      choose (yes l) = inr (omega arith)
+      choose (no l) = inl (omega arith)
 
   -- no greater part is left
   pub tried-all : (y r : ℕ) → y + y ≤ w → Tried f w y r → BestSplit f w r
   tried-all y r d B = record { low = B .low; least = λ z p l h. B .least z p l (omega arith); from = B .from }
+
+-- ---- at four nodes
+
+-- the least costs of w at the nodes r 0 to r 3
+pub record BestSplits (cells : List ℕ) (size : ℕ) (r : ℕ → ℕ) (w : ℕ) (best : Four) : Type 0 where
+  pub each : (j : ℕ) → j < 4 → BestSplit (cellIn cells size (r j)) w (nth best j)
+
+-- the splits by the parts above y have been tried at each of them
+pub record FourTried (cells : List ℕ) (size : ℕ) (r : ℕ → ℕ) (w y : ℕ) (best : Four) : Type 0 where
+  pub below : y < w
+  pub each : (j : ℕ) → j < 4 → Tried (cellIn cells size (r j)) w y (nth best j)
+
+module _ {cells : List ℕ} {size : ℕ} {r : ℕ → ℕ} {w : ℕ} where
+  pub four-tried-none : {best : Four} → 0 < w → best ≡ rowsAt cells size r w → FourTried cells size r w (bitAnd (w - 1) w) best
+  four-tried-none pos is = record {
+    below = let lower = and-le-l (w - 1) w in omega arith;
+    each = λ j s.
+        subst (Tried (cellIn cells size (r j)) w (bitAnd (w - 1) w)) (sym (ap (λ (f : Four). nth f j) is ∙ rows-nth cells size r w j s))
+        (tried-none (cellIn cells size (r j)) w pos);
+  }
+
+  pub four-tried-next : {y : ℕ} {best one other sums best' : Four} → w < y + y → one ≡ rowsAt cells size r y → other ≡ rowsAt cells size r (w - y)
+      → sums ≡ sumFour one other → best' ≡ lessFour sums best → FourTried cells size r w y best → FourTried cells size r w (bitAnd (y - 1) w) best'
+  four-tried-next {y} {best} {one} {other} {sums} {best'} d is-one is-other is-sum is-best T = record {
+    below = let lower = and-le-l (y - 1) w in omega (arith, T .below);
+    each = λ j s. tried-least (cellIn cells size (r j)) w y (nth best j) (nth best' j) d (value j s) (T .each j s);
+  }
+    where
+      value : (j : ℕ) → j < 4 → nth best' j ≡ min (cellIn cells size (r j) y + cellIn cells size (r j) (w - y)) (nth best j)
+      value j s =
+          ap (λ (f : Four). nth f j) is-best ∙ less-nth sums best j s
+          ∙ ap (λ (x : ℕ). min x (nth best j))
+          (ap (λ (f : Four). nth f j) is-sum ∙ sum-nth one other j s
+          ∙ ap₂ _+_ (ap (λ (f : Four). nth f j) is-one ∙ rows-nth cells size r y j s)
+          (ap (λ (f : Four). nth f j) is-other ∙ rows-nth cells size r (w - y) j s))
+
+  pub four-tried-all : {y : ℕ} {best : Four} → y + y ≤ w → FourTried cells size r w y best → BestSplits cells size r w best
+  four-tried-all {y} {best} d T = record { each = λ j s. tried-all (cellIn cells size (r j)) w y (nth best j) d (T .each j s) }

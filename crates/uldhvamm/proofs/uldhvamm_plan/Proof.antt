@@ -35,8 +35,14 @@ same-length-7 c = search needs
 same-length-8 : tie.Need-same-length-8
 same-length-8 c = search needs
 
+same-length-9 : tie.Need-same-length-9
+same-length-9 c = search needs
+
+same-length-10 : tie.Need-same-length-10
+same-length-10 c = search needs
+
 returns : tie.Need-returns
-returns c = called (c .before .before .before .before .before .before .before .before .before .before .before .before .before .before .before .before .before .before .plan-sheet .ensures .0) (c .before .before .give .ensures)
+returns c = called (c .before .before .before .before .before .before .before .before .before .before .before .before .before .before .before .before .before .before .before .before .before .before .plan-sheet .ensures .0) (c .before .before .give .ensures)
 
 pub uldhvamm-plan-spec : {M : Type 1} → statement M
 uldhvamm-plan-spec =
@@ -52,4 +58,6 @@ uldhvamm-plan-spec =
     same-length-6
     same-length-7
     same-length-8
+    same-length-9
+    same-length-10
     returns)

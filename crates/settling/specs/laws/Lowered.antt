@@ -1,0 +1,199 @@
+-- The cells of four sets, four for each node, lowered along arcs: one arc, the first arc that still gives less, and all of them.
+-- Assumes nothing.
+use Prim.Native.Nat.{ℕ, _+_, _*_, _/_, _%_, _≤_, _<_}
+use mathlib.Core.Path.{_≡_, refl, sym, ap, _∙_, subst}
+use mathlib.Core.Logic.{_≢_, _⊎_, inl, inr}
+use mathlib.Core.Bool.{true, false}
+use mathlib.Core.List.{List}
+use native.Mathlib.Nat.{div-add-mod', mod-lt}
+use native.Mathlib.Omega.{arith}
+use native.Mathlib.Decide.{ℕ-discrete, decLt}
+use lib.ListN.{length}
+use Rattle.lists.specs.Below.{below-more}
+use Rattle.lists.specs.Sums.{sumTo, sumTo-lt}
+use Rattle.cost_table.specs.Cells.{cellIn}
+use Rattle.lanes.specs.declared.Four.{Four}
+use Rattle.lanes.specs.laws.Four.{nth, fourOf}
+use Rattle.working_none.specs.laws.Low.{entry, AllLow}
+use Rattle.lent_tables.specs.SheetTables.{SheetTables}
+use Rattle.settling.specs.laws.Arcs.{startAt, endAt, weightAt, ArcLanes}
+use Rattle.settling.specs.laws.ClosedOver.{ArcFrom, ClosedOver}
+use Rattle.settling.specs.laws.LowerFour.{alongFour, fallsFour, along-nth, cell-nth, none-falls, one-falls, LoweredAt}
+
+-- arc e, with the cells of its end, gives its start these costs
+pub record Along (end weight : ℕ → ℕ) (lanes : List ℕ) (e : ℕ) (by : Four) : Type 0 where
+  pub gives : (j : ℕ) → j < 4 → nth by j ≡ weight e + cellIn lanes 4 (end e) j
+
+-- the arcs before r give no cell less
+pub record ClosedTo (start end weight : ℕ → ℕ) (lanes : List ℕ) (r : ℕ) : Type 0 where
+  pub each : (e : ℕ) → e < r → (j : ℕ) → j < 4 → cellIn lanes 4 (start e) j ≤ weight e + cellIn lanes 4 (end e) j
+
+module _ (m : ℕ) (start end weight : ℕ → ℕ) where
+  -- no cell rises, and one that is not what it was is supported by an arc
+  pub record Lowered (before after : List ℕ) : Type 0 where
+    pub same-length : length after ≡ length before
+    pub low : (v j : ℕ) → j < 4 → cellIn after 4 v j ≤ cellIn before 4 v j
+    pub from : (v j : ℕ) → j < 4 → (cellIn after 4 v j ≡ cellIn before 4 v j) ⊎ ArcFrom m start end weight (λ u. cellIn after 4 u j) v
+
+  -- the arcs before r give no cell less, and r does, where it is an arc
+  pub record FirstOpen (lanes : List ℕ) (r : ℕ) : Type 0 where
+    pub bound : r ≤ m
+    pub before : ClosedTo start end weight lanes r
+    pub gives : r < m → (j : ℕ) × (j < 4) × (weight r + cellIn lanes 4 (end r) j < cellIn lanes 4 (start r) j)
+
+  -- lowered, until no arc gives less
+  pub record Settled (before after : List ℕ) : Type 0 where
+    pub lowered : Lowered before after
+    pub closed : ClosedTo start end weight after m
+
+-- ---- the first arc that gives less
+
+-- the costs along an arc to node v
+pub along-arc : (end weight : ℕ → ℕ) {e v x : ℕ} {here by : Four} {lanes : List ℕ} → here ≡ fourOf lanes v → by ≡ alongFour here x → weight e ≡ x
+    → end e ≡ v → Along end weight lanes e by
+along-arc end weight {e} {v} {x} {here} {by} {lanes} was is w ends = record {
+  gives = λ j l.
+      omega (
+        arith,
+        ap (λ (f : Four). nth f j) is,
+        along-nth here x j l,
+        ap (λ (f : Four). nth f j) was,
+        cell-nth lanes v j l,
+        ap (λ (y : ℕ). cellIn lanes 4 y j) ends,
+      );
+}
+
+module _ {start end weight : ℕ → ℕ} {lanes : List ℕ} where
+  pub closed-none : ClosedTo start end weight lanes 0
+  closed-none = record { each = λ e l. absurd (omega arith) }
+
+  module _ {e u : ℕ} {by : Four} (before : ClosedTo start end weight lanes e) (is : start e ≡ u) (A : Along end weight lanes e by) where
+    pub closed-more : fallsFour (fourOf lanes u) by ≡ false → ClosedTo start end weight lanes (e + 1)
+    closed-more none = record {
+      each =
+          below-more (λ d. (j : ℕ) → j < 4 → cellIn lanes 4 (start d) j ≤ weight d + cellIn lanes 4 (end d) j) e (before .each)
+          (λ j l.
+          omega (
+            arith,
+            none-falls (fourOf lanes u) by none j l,
+            cell-nth lanes u j l,
+            A .gives j l,
+            ap (λ (x : ℕ). cellIn lanes 4 x j) is,
+          ));
+    }
+
+    pub open-found : {m : ℕ} → e < m → fallsFour (fourOf lanes u) by ≡ true → FirstOpen m start end weight lanes e
+    open-found l some = record {
+      bound = omega arith;
+      before = before;
+      gives = λ _.
+          let (j, s, less) = one-falls (fourOf lanes u) by some in
+          (j, s, omega (arith, less, cell-nth lanes u j s, A .gives j s, ap (λ (x : ℕ). cellIn lanes 4 x j) is));
+    }
+
+  pub none-open : {m e : ℕ} → e ≡ m → ClosedTo start end weight lanes e → FirstOpen m start end weight lanes e
+  none-open q before = record { bound = omega arith; before = before; gives = λ l. absurd (omega arith) }
+
+-- it is an arc
+pub is-arc : {m r : ℕ} {start end weight : ℕ → ℕ} {lanes : List ℕ} → FirstOpen m start end weight lanes r → r ≢ m → r < m
+is-arc F ne = omega (arith, F .bound)
+
+-- ---- lowered
+
+module _ {m : ℕ} {start end weight : ℕ → ℕ} where
+  pub lowered-none : {before : List ℕ} → Lowered m start end weight before before
+  lowered-none = record { same-length = refl; low = λ v j l. omega arith; from = λ v j l. inl refl }
+
+  pub lowered-more : {before mid after : List ℕ} → Lowered m start end weight before mid → Lowered m start end weight mid after
+      → Lowered m start end weight before after
+  lowered-more {before} {mid} {after} L P = record {
+    same-length = P .same-length ∙ L .same-length;
+    low = λ v j l. omega (arith, P .low v j l, L .low v j l);
+    from = λ v j l. go v j l (P .from v j l) (L .from v j l);
+  }
+    where
+      go : (v j : ℕ) → j < 4 → (cellIn after 4 v j ≡ cellIn mid 4 v j) ⊎ ArcFrom m start end weight (λ u. cellIn after 4 u j) v
+          → (cellIn mid 4 v j ≡ cellIn before 4 v j) ⊎ ArcFrom m start end weight (λ u. cellIn mid 4 u j) v
+          → (cellIn after 4 v j ≡ cellIn before 4 v j) ⊎ ArcFrom m start end weight (λ u. cellIn after 4 u j) v
+      go v j l (inr h) old = inr h
+      go v j l (inl e) (inl q) = inl (e ∙ q)
+      go v j l (inl e) (inr h) = inr (record {
+        arc = h .arc;
+        on-graph = h .on-graph;
+        from = h .from;
+        gives = omega (arith, h .gives, P .low (end (h .arc)) j l);
+      })
+
+  -- an arc, with costs that the cells of its end are not above
+  pub lowered-by-arc : {e u : ℕ} {by : Four} {before after : List ℕ} → e < m → start e ≡ u
+      → ((j : ℕ) → j < 4 → weight e + cellIn before 4 (end e) j ≤ nth by j) → LoweredAt u by before after
+      → Lowered m start end weight before after
+  lowered-by-arc {e} {u} {by} {before} {after} l is gives A = record {
+    same-length = A .same-length;
+    low = low;
+    from = λ v j s. at v j s (ℕ-discrete v u);
+  }
+    where
+      low : (v j : ℕ) → j < 4 → cellIn after 4 v j ≤ cellIn before 4 v j
+      low v j s = go (ℕ-discrete v u)
+        where
+          go : Dec (v ≡ u) → cellIn after 4 v j ≤ cellIn before 4 v j
+          go (yes q) = subst (λ (x : ℕ). cellIn after 4 x j ≤ cellIn before 4 x j) (sym q) (omega (arith, A .here j s))
+          go (no ne) = omega (arith, A .others v j s ne)
+
+      at : (v j : ℕ) → j < 4 → Dec (v ≡ u) → (cellIn after 4 v j ≡ cellIn before 4 v j) ⊎ ArcFrom m start end weight (λ x. cellIn after 4 x j) v
+      at v j s (no ne) = inl (A .others v j s ne)
+      at v j s (yes q) =
+          subst (λ (x : ℕ). (cellIn after 4 x j ≡ cellIn before 4 x j) ⊎ ArcFrom m start end weight (λ y. cellIn after 4 y j) x) (sym q)
+          (here (decLt (nth by j) (cellIn before 4 u j)))
+        where
+          here : Dec (nth by j < cellIn before 4 u j) → (cellIn after 4 u j ≡ cellIn before 4 u j) ⊎ ArcFrom m start end weight (λ y. cellIn after 4 y j) u
+          here (yes less) = inr (record {
+            arc = e;
+            on-graph = l;
+            from = is;
+            gives = omega (arith, A .here j s, gives j s, low (end e) j s);
+          })
+          here (no more) = inl (omega (arith, A .here j s))
+
+  -- the entries of the list, each as a cell
+  entry-low : {before after : List ℕ} → Lowered m start end weight before after → (i : ℕ) → entry after i ≤ entry before i
+  entry-low {before} {after} L i =
+      subst (λ (x : ℕ). entry after x ≤ entry before x) (div-add-mod' i 4) (L .low (i / 4) (i % 4) (mod-lt i (omega arith)))
+
+  -- the first arc that gives less lowers a cell, and with it their sum
+  module _ {r : ℕ} {by : Four} {before mid after : List ℕ} (L : Lowered m start end weight before mid) (F : FirstOpen m start end weight mid r) (on : r < m)
+      (B : Along end weight mid r by) (A : LoweredAt (start r) by mid after) where
+    this-arc : Lowered m start end weight mid after
+    this-arc = lowered-by-arc on refl (λ i l. omega (arith, B .gives i l)) A
+
+    pub lowered-next : Lowered m start end weight before after
+    lowered-next = lowered-more L this-arc
+
+    pub sum-falls : start r * 4 + 4 ≤ length mid → sumTo (length before) (entry after) < sumTo (length before) (entry mid)
+    sum-falls long =
+        let (j, s, less) = F .gives on in
+        sumTo-lt (length before) (start r * 4 + j) (entry after) (entry mid) (λ i _. entry-low this-arc i) (omega (arith, L .same-length))
+        (omega (arith, A .here j s, B .gives j s))
+
+  -- no arc is left that gives less
+  pub settled-end : {before after : List ℕ} {r : ℕ} → r ≡ m → Lowered m start end weight before after → FirstOpen m start end weight after r
+      → Settled m start end weight before after
+  settled-end {after = after} e L F = record { lowered = L; closed = subst (ClosedTo start end weight after) e (F .before) }
+
+  -- each of the four columns is closed over the arcs
+  pub settled-over : {before after : List ℕ} → Settled m start end weight before after → (n j : ℕ) → j < 4
+      → ClosedOver n m start end weight (λ v. cellIn before 4 v j) (λ v. cellIn after 4 v j)
+  settled-over S n j s = record {
+    low = λ v _. S .lowered .low v j s;
+    from = λ v _. S .lowered .from v j s;
+    closed = λ e l. S .closed .each e l j s;
+  }
+
+  pub still-low : {before after : List ℕ} → Lowered m start end weight before after → AllLow before → AllLow after
+  still-low L low i l = omega (arith, entry-low L i, low i (omega (arith, L .same-length)))
+
+-- what is asked of the cells stays
+pub still-lanes : {n m : ℕ} {t : SheetTables} {before after : List ℕ} → Lowered m (startAt t) (endAt t) (weightAt t) before after → ArcLanes n m t before
+    → ArcLanes n m t after
+still-lanes L R = record { arcs = R .arcs; wide = omega (arith, R .wide, L .same-length); low = still-low L (R .low) }

@@ -1,0 +1,69 @@
+-- `splits::split_four` meets its contract. The loop's invariant: the sets at the positions so far are split.
+-- Assumes nothing.
+use Prim.Native.Nat.{_-_, _≤_}
+use mathlib.Core.Path.{refl}
+use native.Mathlib.Omega.{arith}
+use borrow.Author.Needs.{needs}
+use Rattle.order_ranges.specs.laws.Ranges.{entryOf, not-empty}
+use Rattle.lanes.specs.laws.Four.{nthNumber}
+use Rattle.splits.specs.laws.FourRows.{rows-fit}
+use Rattle.splits.specs.laws.SplitRows.{FourSplit, four-none, still-rows, four-next, four-all}
+use Rattle.splits.proofs.split_four.Statement.{statement}
+use Rattle.splits.proofs.split_four.Tie as tie
+
+abbrev Inv-loop : tie.InvT-loop
+Inv-loop sets size rows first last cells₀ position₀ cells position = (first ≤ position) × (position ≤ last) × FourSplit (entryOf sets) first position size (nthNumber rows) cells₀ cells
+
+abbrev μ-loop : tie.MeasureT-loop
+μ-loop sets size rows first last cells₀ position₀ cells position = last - position
+
+loop-holds : tie.Need-loop-holds Inv-loop μ-loop
+loop-holds c = (omega arith, c .before .before .pre .1 .rising, four-none)
+
+mul-w : tie.Need-mul-w Inv-loop μ-loop
+mul-w c = omega (arith, c .loop-test .taken, c .before .before .before .before .pre .1 .bound)
+
+shared-slice-read-w : tie.Need-shared-slice-read-w Inv-loop μ-loop
+shared-slice-read-w c = omega (arith, c .before .loop-test .taken, c .before .before .before .before .before .pre .1 .bound)
+
+cast-w : tie.Need-cast-w Inv-loop μ-loop
+cast-w c = omega (arith, c .shared-slice-known2 .given (c .before .before .loop .position))
+
+best-splits-requires : tie.Need-best-splits-requires Inv-loop μ-loop
+best-splits-requires c κs = (still-rows (c .before .before .before .before .before .before .before .pre .3) (c .before .before .before .before .loop .inv .2), not-empty _ _ _ (c .before .before .before .before .before .before .before .pre .0) (c .before .before .before .before .loop .position) (omega (arith, c .before .before .before .before .loop .inv .0, c .before .before .before .before .before .before .before .pre .2)) (omega (arith, c .before .before .before .loop-test .taken, c .before .before .before .before .before .before .before .pre .1 .bound)), c .before .before .before .before .before .before .before .pre .0 .below (c .before .before .before .before .loop .position) (omega (arith, c .before .before .before .loop-test .taken, c .before .before .before .before .before .before .before .pre .1 .bound)))
+
+write-rows-requires : tie.Need-write-rows-requires Inv-loop μ-loop
+write-rows-requires c κs = rows-fit (still-rows (c .before .before .before .before .before .before .before .before .pre .3) (c .before .before .before .before .before .loop .inv .2)) (c .before .before .before .before .before .before .before .before .pre .0 .below (c .before .before .before .before .before .loop .position) (omega (arith, c .before .before .before .before .loop-test .taken, c .before .before .before .before .before .before .before .before .pre .1 .bound)))
+
+add-position : tie.Need-add-position Inv-loop μ-loop
+add-position c = search needs
+
+loop-less : tie.Need-loop-less Inv-loop μ-loop
+loop-less c = search needs
+
+loop-again : tie.Need-loop-again Inv-loop μ-loop
+loop-again c = (omega (arith, c .before .before .before .before .before .before .before .before .loop .inv .0), omega (arith, c .before .before .before .before .before .before .before .loop-test .taken), four-next (c .before .before .before .before .before .before .before .before .before .before .before .pre .0) (c .before .before .before .before .before .before .before .before .before .before .before .pre .1) (c .before .before .before .before .before .before .before .before .loop .inv .0) (c .before .before .before .before .before .before .before .loop-test .taken) (c .before .before .before .before .before .before .before .before .before .before .before .pre .3) (c .before .before .before .before .before .before .before .before .loop .inv .2) refl (c .before .before .before .best-splits .ensures) (c .before .before .write-rows .ensures))
+
+same-length : tie.Need-same-length Inv-loop μ-loop
+same-length c = c .before .loop .inv .2 .same-length
+
+returns : tie.Need-returns Inv-loop μ-loop
+returns c = four-all (omega (arith, c .before .loop .inv .1, c .loop-test .left)) (c .before .loop .inv .2)
+
+pub split-four-spec : {M : Type 1} → statement M
+split-four-spec =
+    tie.close
+    (tie.spec
+    Inv-loop
+    μ-loop
+    loop-holds
+    mul-w
+    shared-slice-read-w
+    cast-w
+    best-splits-requires
+    write-rows-requires
+    add-position
+    loop-less
+    loop-again
+    same-length
+    returns)

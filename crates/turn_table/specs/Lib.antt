@@ -1,0 +1,2 @@
+-- laws: what the contracts of this crate speak of
+pub mod laws

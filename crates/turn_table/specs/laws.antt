@@ -1,0 +1,2 @@
+-- the entries of a table of turns
+pub mod Entries

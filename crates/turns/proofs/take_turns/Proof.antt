@@ -1,0 +1,79 @@
+-- `turns::take_turns` meets its contract. The loop's invariant: the cells are lowered along arcs.
+-- Assumes nothing.
+use mathlib.Core.Path.{_≡_, _∙_}
+use native.Mathlib.Omega.{arith}
+use lib.ListN.{length}
+use borrow.Author.Needs.{needs}
+use Rattle.turn_table.specs.laws.Entries.{turnEntries}
+use Rattle.visits.specs.laws.ByIndex.{LoweredByIndex, still-some, index-more, index-length, index-none}
+use Rattle.turns.proofs.take_turns.Statement.{statement}
+use Rattle.turns.proofs.take_turns.Tie as tie
+
+abbrev Inv-loop : tie.InvT-loop
+Inv-loop starts weights index places n lanes₀ turns₀ left₀ lanes turns left = (length turns ≡ turnEntries) × LoweredByIndex n starts weights index places lanes₀ lanes
+
+abbrev μ-loop : tie.MeasureT-loop
+μ-loop starts weights index places n lanes₀ turns₀ left₀ lanes turns left = left
+
+mul-left : tie.Need-mul-left Inv-loop μ-loop
+mul-left c = omega (arith, c .before .before .before .before .before .before .pre .1 .by-end .few)
+
+loop-holds : tie.Need-loop-holds Inv-loop μ-loop
+loop-holds c = (c .before .before .before .before .before .before .pre .0, index-none)
+
+next-site-requires : tie.Need-next-site-requires Inv-loop μ-loop
+next-site-requires c κs = c .before .before .loop .inv .0
+
+same-length : tie.Need-same-length Inv-loop μ-loop
+same-length c = index-length (c .before .before .before .before .loop .inv .1) (c .before .before .before .before .before .before .before .before .before .before .before .pre .1)
+
+same-length-2 : tie.Need-same-length-2 Inv-loop μ-loop
+same-length-2 c = omega (arith, c .before .before .before .before .loop .inv .0, c .before .before .before .before .before .before .before .before .before .before .before .pre .0)
+
+returns : tie.Need-returns Inv-loop μ-loop
+returns c = c .before .before .before .before .loop .inv .1
+
+leave-requires : tie.Need-leave-requires Inv-loop μ-loop
+leave-requires c κs = (c .before .before .before .before .before .loop .inv .0, omega (arith, c .before .if1 .left, c .before .before .before .before .before .before .before .before .before .before .before .before .pre .1 .by-end .few))
+
+visit-requires : tie.Need-visit-requires Inv-loop μ-loop
+visit-requires c κs = (c .before .before .before .before .leave .kept .1 .0 ∙ c .before .before .before .before .before .before .before .before .before .before .loop .inv .0, omega (arith, c .before .before .before .before .before .before .if1 .left), still-some (c .before .before .before .before .before .before .before .before .before .before .loop .inv .1) (c .before .before .before .before .before .before .before .before .before .before .before .before .before .before .before .before .before .pre .1))
+
+sub-left : tie.Need-sub-left Inv-loop μ-loop
+sub-left c = search needs
+
+loop-less : tie.Need-loop-less Inv-loop μ-loop
+loop-less c = search needs
+
+loop-again : tie.Need-loop-again Inv-loop μ-loop
+loop-again c = (c .before .before .before .before .visit .kept .1 .1 .1 .1 .1 .1 .1 .0 ∙ c .before .before .before .before .before .before .before .before .before .leave .kept .1 .0 ∙ c .before .before .before .before .before .before .before .before .before .before .before .before .before .before .before .loop .inv .0, index-more (c .before .before .before .before .before .before .before .before .before .before .before .before .before .before .before .loop .inv .1) (c .before .before .before .before .visit .ensures))
+
+same-length-3 : tie.Need-same-length-3 Inv-loop μ-loop
+same-length-3 c = index-length (c .before .loop .inv .1) (c .before .before .before .before .before .before .before .before .pre .1)
+
+same-length-4 : tie.Need-same-length-4 Inv-loop μ-loop
+same-length-4 c = omega (arith, c .before .loop .inv .0, c .before .before .before .before .before .before .before .before .pre .0)
+
+returns-2 : tie.Need-returns-2 Inv-loop μ-loop
+returns-2 c = c .before .loop .inv .1
+
+pub take-turns-spec : {M : Type 1} → statement M
+take-turns-spec =
+    tie.close
+    (tie.spec
+    Inv-loop
+    μ-loop
+    mul-left
+    loop-holds
+    next-site-requires
+    same-length
+    same-length-2
+    returns
+    leave-requires
+    visit-requires
+    sub-left
+    loop-less
+    loop-again
+    same-length-3
+    same-length-4
+    returns-2)

@@ -1,0 +1,2 @@
+-- cells lowered along the arcs of an index
+pub mod ByIndex
