@@ -25,7 +25,7 @@ enum {
 /* One byte more than the longest sheet, so that a longer input is seen. */
 static uint8_t sheet[SHEET_BYTES + 1];
 
-static uint16_t starts[LEGS], ends[LEGS], landings[SITES];
+static uint16_t starts[LEGS], ends[LEGS], landings[SITES], by_end[LEGS], places[SITES + 1];
 static uint32_t prices[LEGS], cells[SITES << STATIONS];
 static uint8_t marks[SITES], plan[PLAN_BYTES];
 
@@ -55,8 +55,8 @@ int main(void)
         fprintf(stderr, "too long\n");
         return 2;
     }
-    refusal = uldhvamm_plan(sheet, size, starts, LEGS, ends, LEGS, prices, LEGS, landings, SITES, cells, (size_t)SITES << STATIONS, marks,
-                            SITES, plan, PLAN_BYTES, answer, 3);
+    refusal = uldhvamm_plan(sheet, size, starts, LEGS, ends, LEGS, prices, LEGS, landings, SITES, by_end, LEGS, places, SITES + 1, cells,
+                            (size_t)SITES << STATIONS, marks, SITES, plan, PLAN_BYTES, answer, 3);
     if (refusal != 0) {
         printf("refused %lu at %llu\n", (unsigned long)refusal, (unsigned long long)answer[0]);
         return 1;

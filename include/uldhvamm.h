@@ -25,13 +25,19 @@
  *   without SR makes every site a sender. A best sender is asked for with landing entries that the caller lends: an entry is a sender's
  *   where its bit ULDHVAMM_SENDER_FLAG is set, whatever its other bits are.
  *
+ * The index of the legs by their end
+ *   The engine fills it. by_end has the leg numbers, one entry a leg, grouped by the site that the leg ends at, lowest site first, in leg
+ *   order within. Entry v of places is the number of legs that end at a site below v, for v from 0 to the number of sites. So the legs that
+ *   end at site v are the entries of by_end from places[v] up to, and without, places[v + 1]; the last entry of places is the number of
+ *   legs.
+ *
  * Interface
  *   The parameters, widths and values below are those of interface ULDHVAMM_INTERFACE. A library may be older or newer than the header: a
  *   program calls uldhvamm_interface() first, and calls nothing else where it gives another number.
  *
  * Stack
  *   A call allocates nothing, keeps nothing and may run in any number of threads at once. As measured (bench/tests/stack.rs), it runs in a
- *   thread with 32 KiB of stack; nothing proves this.
+ *   thread with 40 KiB of stack; nothing proves this.
  */
 #ifndef ULDHVAMM_H
 #define ULDHVAMM_H
@@ -44,7 +50,7 @@ extern "C" {
 #endif
 
 /* The interface that this header declares. */
-#define ULDHVAMM_INTERFACE 2
+#define ULDHVAMM_INTERFACE 3
 
 /*
  * The limits of a sheet, a cell for which there is no tree ("none"), the answer that no site is a best sender, and what is added to the
@@ -91,13 +97,14 @@ uint32_t uldhvamm_interface(void);
  * The engine: plans a sheet of n sites, k stations and m legs, and writes the plan file to the plan buffer. The root of the plan is a
  * sender; ULDHVAMM_NO_PLAN says that from no sender legs lead to every station.
  *
- * Long enough are: starts, ends and prices with m entries, landings with n, cells with n times 2^k, marks with n. Longer ones are as
- * good. A plan file has 10 bytes and 4 for each leg, so 10 + 4 * (n - 1) bytes are always enough.
+ * Long enough are: starts, ends, prices and by_end with m entries, landings with n, places with n + 1, cells with n times 2^k, marks with
+ * n; ULDHVAMM_SHORT_TABLES says that one of these is shorter. Longer ones are as good. A plan file has 10 bytes and 4 for each leg, so
+ * 10 + 4 * (n - 1) bytes are always enough.
  *
- * After a plan, the first entries of the tables hold the legs in order (start, end, price), each site's landing entry, the costs of all
- * sites, senders or not, and 1 in each mark; the plan buffer begins with the plan file. ULDHVAMM_NO_PLAN and ULDHVAMM_SHORT_BUFFER leave
- * the tables as after a plan, and the plan buffer untouched. The refusals 1 to 11 touch nothing but answer. Later entries and bytes are
- * untouched.
+ * After a plan, the first entries of the tables hold the legs in order (start, end, price), each site's landing entry, the index of the
+ * legs by their end, the costs of all sites, senders or not, and 1 in each mark; the plan buffer begins with the plan file.
+ * ULDHVAMM_NO_PLAN and ULDHVAMM_SHORT_BUFFER leave the tables as after a plan, and the plan buffer untouched. The refusals 1 to 11 touch
+ * nothing but answer. Later entries and bytes are untouched.
  */
 uint32_t uldhvamm_plan(
     const uint8_t *sheet, size_t sheet_length,
@@ -105,6 +112,8 @@ uint32_t uldhvamm_plan(
     uint16_t *ends, size_t ends_length,
     uint32_t *prices, size_t prices_length,
     uint16_t *landings, size_t landings_length,
+    uint16_t *by_end, size_t by_end_length,
+    uint16_t *places, size_t places_length,
     uint32_t *cells, size_t cells_length,
     uint8_t *marks, size_t marks_length,
     uint8_t *plan, size_t plan_length,
@@ -115,9 +124,9 @@ uint32_t uldhvamm_plan(
  * a sender and that holds a landing of every station, with its true total. ULDHVAMM_NOT_A_SENDER is tested after ULDHVAMM_NO_TREE and
  * before ULDHVAMM_STATION_MISSED.
  *
- * The tables are as for the engine, without cells. From ULDHVAMM_CUT_PLAN on and on acceptance the leg and landing tables are filled;
- * from ULDHVAMM_NO_TREE on and on acceptance the first n marks are 1 for the sites that the listed legs reach from the root, else 0.
- * Before, the marks are untouched; the refusals 1 to 11 touch nothing but answer. Later entries are untouched.
+ * The tables are as for the engine, without by_end, places and cells. From ULDHVAMM_CUT_PLAN on and on acceptance the leg and landing
+ * tables are filled; from ULDHVAMM_NO_TREE on and on acceptance the first n marks are 1 for the sites that the listed legs reach from the
+ * root, else 0. Before, the marks are untouched; the refusals 1 to 11 touch nothing but answer. Later entries are untouched.
  */
 uint32_t uldhvamm_read_plan(
     const uint8_t *sheet, size_t sheet_length,

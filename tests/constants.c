@@ -13,7 +13,7 @@ enum { HEAD = 5, LINK = 10, LANDING = 5, SENDER = 4, END = 2, MOST_LEGS = 8200 }
 static uint8_t sheet[HEAD + LINK * MOST_LEGS + LANDING * 16 + SENDER + END + 1];
 static size_t size;
 
-static uint16_t starts[MOST_LEGS], ends[MOST_LEGS], landings[2048];
+static uint16_t starts[MOST_LEGS], ends[MOST_LEGS], landings[2048], by_end[MOST_LEGS], places[2048];
 static uint32_t prices[MOST_LEGS], cells[4096];
 static uint8_t marks[2048], plan[64];
 static uint64_t answer[3];
@@ -82,8 +82,8 @@ static void two_sites(void)
 /* Plans the sheet, with so many entries of the marks and bytes of the plan buffer. */
 static uint32_t planned(size_t mark_count, size_t byte_count)
 {
-    return uldhvamm_plan(sheet, size, starts, MOST_LEGS, ends, MOST_LEGS, prices, MOST_LEGS, landings, 2048, cells, 4096, marks, mark_count,
-                         plan, byte_count, answer, 3);
+    return uldhvamm_plan(sheet, size, starts, MOST_LEGS, ends, MOST_LEGS, prices, MOST_LEGS, landings, 2048, by_end, MOST_LEGS, places,
+                         2048, cells, 4096, marks, mark_count, plan, byte_count, answer, 3);
 }
 
 /* Reads a plan file against the sheet. */

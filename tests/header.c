@@ -1,6 +1,7 @@
 /*
  * The header as C: plans sheet A of document 01, asks about its cost table and a smaller one, reads the plan file back, changes its
- * total and sets it back, plans an empty sheet, and plans and reads with a licence for site 1 alone.
+ * total and sets it back, plans an empty sheet, plans with tables of the index that are one entry short or two longer and with a short
+ * buffer, and plans and reads with a licence for site 1 alone. After each planning it prints the two tables of the index whole.
  * tests/outside compiles it, links it with libuldhvamm.a, and compares what it prints.
  */
 #include "uldhvamm.h"
@@ -8,7 +9,7 @@
 #include <stdio.h>
 #include <string.h>
 
-enum { SITES = 4, STATIONS = 3, LEGS = 5 };
+enum { SITES = 4, STATIONS = 3, LEGS = 5, PLAN_BYTES = 10 + 4 * (SITES - 1), MORE = 2 };
 
 static const uint8_t sheet_a[] = {
     'H', 'D', 0, 4, 3,
@@ -34,22 +35,35 @@ static const uint16_t both_senders[] = {ULDHVAMM_SENDER_FLAG, ULDHVAMM_SENDER_FL
 static uint8_t sheet[sizeof sheet_a + sizeof licence];
 static size_t sheet_length;
 
-static uint16_t starts[LEGS], ends[LEGS], landings[SITES];
+static uint16_t starts[LEGS], ends[LEGS], landings[SITES], by_end[LEGS + MORE], places[SITES + 1 + MORE];
 static uint32_t prices[LEGS], cells[SITES << STATIONS];
-static uint8_t marks[SITES], plan[10 + 4 * (SITES - 1)];
+static uint8_t marks[SITES], plan[PLAN_BYTES];
 static uint64_t answer[3];
 
-/* Plans the sheet. */
-static uint32_t plan_sheet(void)
+/* Puts numbers that no sheet gives into the tables of the index. */
+static void spoil_index(void)
 {
-    return uldhvamm_plan(sheet, sheet_length, starts, LEGS, ends, LEGS, prices, LEGS, landings, SITES, cells, SITES << STATIONS, marks,
-                         SITES, plan, sizeof plan, answer, 3);
+    size_t i;
+    for (i = 0; i < LEGS + MORE; i++) {
+        by_end[i] = 60003;
+    }
+    for (i = 0; i < SITES + 1 + MORE; i++) {
+        places[i] = 60004;
+    }
+}
+
+/* Plans the sheet, with so many entries of the tables of the index and bytes of the plan buffer. The index holds strange numbers before. */
+static uint32_t plan_with(size_t leg_entries, size_t place_entries, size_t bytes)
+{
+    spoil_index();
+    return uldhvamm_plan(sheet, sheet_length, starts, LEGS, ends, LEGS, prices, LEGS, landings, SITES, by_end, leg_entries, places,
+                         place_entries, cells, SITES << STATIONS, marks, SITES, plan, bytes, answer, 3);
 }
 
 /* Reads the plan buffer as a plan file of the sheet. */
 static uint32_t read_plan(void)
 {
-    return uldhvamm_read_plan(sheet, sheet_length, plan, sizeof plan, starts, LEGS, ends, LEGS, prices, LEGS, landings, SITES, marks,
+    return uldhvamm_read_plan(sheet, sheet_length, plan, PLAN_BYTES, starts, LEGS, ends, LEGS, prices, LEGS, landings, SITES, marks,
                               SITES, answer, 3);
 }
 
@@ -61,6 +75,25 @@ static void print_answer(const char *name, uint32_t number)
     } else {
         printf("%s: refused %u at %u\n", name, (unsigned)number, (unsigned)answer[0]);
     }
+}
+
+/* Prints every entry of a table. */
+static void print_table(const char *name, const uint16_t *table, size_t length)
+{
+    size_t i;
+    printf("  %s", name);
+    for (i = 0; i < length; i++) {
+        printf(" %u", (unsigned)table[i]);
+    }
+    printf("\n");
+}
+
+/* Plans the sheet in this way, and prints the answer and the tables of the index. */
+static void print_plan(const char *name, size_t leg_entries, size_t place_entries, size_t bytes)
+{
+    print_answer(name, plan_with(leg_entries, place_entries, bytes));
+    print_table("by_end", by_end, LEGS + MORE);
+    print_table("places", places, SITES + 1 + MORE);
 }
 
 /* Prints what the enquirer returned, and the answer; `none` is the answer that stands for "none". */
@@ -108,6 +141,15 @@ static void enquire(void)
                   ULDHVAMM_NO_SENDER);
 }
 
+/* Plans with each table of the index one entry short, with both two entries longer, and with a buffer that is one byte short. */
+static void try_lengths(void)
+{
+    print_plan("plan, by_end one entry short", LEGS - 1, SITES + 1, PLAN_BYTES);
+    print_plan("plan, places one entry short", LEGS, SITES, PLAN_BYTES);
+    print_plan("plan, longer by_end and places", LEGS + MORE, SITES + 1 + MORE, PLAN_BYTES);
+    print_plan("plan, buffer one byte short", LEGS, SITES + 1, PLAN_BYTES - 1);
+}
+
 /*
  * Site 1 alone may send: there is no plan, site 1 is the best sender of stations 0 and 1, and A's plan file, which the buffer still holds,
  * is refused: its root is site 0.
@@ -116,7 +158,7 @@ static void try_licence(void)
 {
     memcpy(sheet + sizeof sheet_a - 2, licence, sizeof licence);
     sheet_length = sizeof sheet_a - 2 + sizeof licence;
-    print_answer("plan with one sender", plan_sheet());
+    print_plan("plan with one sender", LEGS, SITES + 1, PLAN_BYTES);
     printf("landing entries: %u %u\n", (unsigned)landings[0], (unsigned)landings[1]);
     ask_for_sender("sender of subset 3", SITES << STATIONS, SITES, STATIONS, 3);
     ask_for_sender("sender of subset 7", SITES << STATIONS, SITES, STATIONS, 7);
@@ -127,7 +169,7 @@ static void try_licence(void)
 static void print_legs(void)
 {
     size_t i;
-    for (i = 10; i < sizeof plan; i += 4) {
+    for (i = 10; i < PLAN_BYTES; i += 4) {
         unsigned leg = 256U * plan[i + 2] + plan[i + 3];
         printf("leg %u from %u to %u price %u\n", leg, (unsigned)starts[leg], (unsigned)ends[leg], (unsigned)prices[leg]);
     }
@@ -137,7 +179,7 @@ int main(void)
 {
     memcpy(sheet, sheet_a, sizeof sheet_a);
     sheet_length = sizeof sheet_a;
-    print_answer("plan", plan_sheet());
+    print_plan("plan", LEGS, SITES + 1, PLAN_BYTES);
     print_legs();
     printf("none: %s\n", cells[15] == ULDHVAMM_NO_COST ? "as named" : "another number");
     enquire();
@@ -145,8 +187,9 @@ int main(void)
     plan[7] = 11;
     printf("false total: %s\n", read_plan() == ULDHVAMM_FALSE_TOTAL ? "as named" : "another number");
     plan[7] = 10;
+    try_lengths();
     sheet_length = 0;
-    print_answer("empty", plan_sheet());
+    print_plan("empty", LEGS, SITES + 1, PLAN_BYTES);
     try_licence();
     return 0;
 }

@@ -2,7 +2,7 @@
 
 use uldhvamm::{Lengths, Tables};
 use uldhvamm_bench::compare::Call;
-use uldhvamm_bench::sheets::{bad_reading, chain, filled_sheet, grid, random_sheet};
+use uldhvamm_bench::sheets::{bad_reading, chain, filled_sheet, gated_row, grid, random_sheet};
 use uldhvamm_bench::sheets::{Chain, Order, Sheet};
 
 /// A call with its sheet and the lengths of the lent tables.
@@ -11,8 +11,6 @@ pub struct Case {
     pub call: Call,
     pub sheet: Vec<u8>,
     pub lengths: Lengths,
-    /// Whether a call may take seconds.
-    pub long: bool,
 }
 
 /// All cases.
@@ -20,6 +18,7 @@ pub fn cases() -> Vec<Case> {
     let mut cases = random_cases();
     cases.extend(grid_cases());
     cases.extend(chain_cases());
+    cases.push(plan_case("worst for turns", gated_row(12)));
     cases.extend(reading_cases());
     cases
 }
@@ -42,7 +41,6 @@ fn plan_case(name: &str, sheet: Sheet) -> Case {
         call: Call::Plan,
         lengths: needed(&sheet),
         sheet: sheet.bytes(),
-        long: false,
     }
 }
 
@@ -83,14 +81,13 @@ fn long_chain(legs: usize, order: Order, whole: bool) -> Sheet {
 /// Chains whose legs are listed in orders that are good and bad for passes over the legs.
 fn chain_cases() -> Vec<Case> {
     let orders = [
-        ("from the far end", Order::Falling, false),
-        ("from the root", Order::Rising, false),
-        ("mixed order", Order::Mixed, true),
-        ("worst order", Order::Worst, true),
+        ("from the far end", Order::Falling),
+        ("from the root", Order::Rising),
+        ("mixed order", Order::Mixed),
+        ("worst order", Order::Worst),
     ];
-    let case = |legs, (name, order, long): (&str, Order, bool)| Case {
-        long,
-        ..plan_case(&format!("chain, {name}"), long_chain(legs, order, false))
+    let case = |legs, (name, order): (&str, Order)| {
+        plan_case(&format!("chain, {name}"), long_chain(legs, order, false))
     };
     let sizes = [1023, 8192].into_iter();
     sizes
@@ -105,7 +102,6 @@ fn reading_case(name: &str, sheet: &Sheet, file: Vec<u8>) -> Case {
         call: Call::Read(file),
         lengths: needed(sheet),
         sheet: sheet.bytes(),
-        long: false,
     }
 }
 

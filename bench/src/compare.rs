@@ -57,10 +57,13 @@ pub fn table_difference(one: &Tables, other: &Tables) -> Option<String> {
         .or_else(|| entry_difference("ends", &one.ends, &other.ends))
         .or_else(|| entry_difference("prices", &one.prices, &other.prices))
         .or_else(|| entry_difference("landings", &one.landings, &other.landings))
+        .or_else(|| entry_difference("by_end", &one.by_end, &other.by_end))
+        .or_else(|| entry_difference("places", &one.places, &other.places))
         .or_else(|| entry_difference("cells", &one.cells, &other.cells))
         .or_else(|| entry_difference("marks", &one.marks, &other.marks))
         .or_else(|| entry_difference("plan", &one.plan, &other.plan))
 }
+
 /// The first place at which two slices differ, in words.
 pub fn entry_difference<T>(name: &str, left: &[T], right: &[T]) -> Option<String>
 where

@@ -1,7 +1,6 @@
 //! The benchmark: times the library and the reference in turn on the same sheets, and compares what they leave.
 //!
-//! `cargo run --release --offline --manifest-path bench/Cargo.toml`; the argument `quick` makes fewer rounds and leaves out the cases
-//! that take seconds. A difference ends the run with exit status 1.
+//! `cargo run --release --offline --manifest-path bench/Cargo.toml`; the argument `quick` makes fewer rounds. A difference ends the run with exit status 1.
 
 mod cases;
 mod timing;
@@ -19,8 +18,7 @@ fn main() {
     println!("Before each call the tables and the plan buffer are filled with garbage, outside the time.");
     println!("After each round all that both left is compared.\n");
     println!("{}", head());
-    let mut cases = cases();
-    cases.retain(|case| !(quick && case.long));
+    let cases = cases();
     for (index, case) in cases.iter().enumerate() {
         let place = format!("{} of {}", index + 1, cases.len());
         match timing::time(case, &place, quick) {

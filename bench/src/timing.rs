@@ -12,7 +12,7 @@ const ENOUGH: Duration = Duration::from_secs(3);
 const LEAST_ROUNDS: usize = 3;
 const MOST_ROUNDS: usize = 200;
 
-/// The same for a quick run; a case whose calls may take seconds has as few rounds in any run.
+/// The same for a quick run.
 const QUICK_ENOUGH: Duration = Duration::from_millis(500);
 const QUICK_LEAST_ROUNDS: usize = 2;
 
@@ -29,9 +29,10 @@ type Called = fn(&Call, &[u8], &mut Tables, &mut [u64]) -> u32;
 /// Times a case. `place` says which case of how many it is. A difference is given in words.
 pub fn time(case: &Case, place: &str, quick: bool) -> Result<Times, String> {
     let enough = if quick { QUICK_ENOUGH } else { ENOUGH };
-    let least = match quick || case.long {
-        true => QUICK_LEAST_ROUNDS,
-        false => LEAST_ROUNDS,
+    let least = if quick {
+        QUICK_LEAST_ROUNDS
+    } else {
+        LEAST_ROUNDS
     };
     let mut random = Random::new(11);
     let garbage = Tables::with(case.lengths, || random.bits());

@@ -106,6 +106,8 @@ fn varied(random: &mut Random, mut lengths: Lengths) -> Lengths {
         &mut lengths.ends,
         &mut lengths.prices,
         &mut lengths.landings,
+        &mut lengths.by_end,
+        &mut lengths.places,
         &mut lengths.cells,
         &mut lengths.marks,
     ];
@@ -115,7 +117,7 @@ fn varied(random: &mut Random, mut lengths: Lengths) -> Lengths {
             .for_each(|length| **length += random.below(4));
     }
     if changed == 2 {
-        let short = &mut *tables[random.below(6)];
+        let short = &mut *tables[random.below(8)];
         *short = short.saturating_sub(random.pick(&[1, 1, 1, 2, 1000]));
     }
     lengths

@@ -18,6 +18,8 @@ fn guarded(lengths: Lengths) -> Lengths {
         ends: longer(lengths.ends),
         prices: longer(lengths.prices),
         landings: longer(lengths.landings),
+        by_end: longer(lengths.by_end),
+        places: longer(lengths.places),
         cells: longer(lengths.cells),
         marks: longer(lengths.marks),
         plan: longer(lengths.plan),
@@ -37,6 +39,8 @@ fn inner_parts(tables: &mut Tables) -> Lent<'_> {
         ends: inner(&mut tables.ends),
         prices: inner(&mut tables.prices),
         landings: inner(&mut tables.landings),
+        by_end: inner(&mut tables.by_end),
+        places: inner(&mut tables.places),
         cells: inner(&mut tables.cells),
         marks: inner(&mut tables.marks),
         plan: inner(&mut tables.plan),
@@ -50,6 +54,8 @@ fn copy_inner(from: &mut Tables, to: &mut Tables) {
     to.ends.copy_from_slice(from.ends);
     to.prices.copy_from_slice(from.prices);
     to.landings.copy_from_slice(from.landings);
+    to.by_end.copy_from_slice(from.by_end);
+    to.places.copy_from_slice(from.places);
     to.cells.copy_from_slice(from.cells);
     to.marks.copy_from_slice(from.marks);
     to.plan.copy_from_slice(from.plan);

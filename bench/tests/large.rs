@@ -2,14 +2,15 @@
 
 use uldhvamm::{Lengths, Tables};
 use uldhvamm_bench::compare::{both, Call, Run};
-use uldhvamm_bench::sheets::{bad_reading, chain, filled_sheet, grid, licensed, random_sheet};
-use uldhvamm_bench::sheets::{Chain, Order, PlanFile, Random, Sheet};
+use uldhvamm_bench::sheets::{bad_reading, chain, filled_sheet, gated_row, grid, licensed};
+use uldhvamm_bench::sheets::{random_sheet, Chain, Order, PlanFile, Random, Sheet};
 
 /// Runs both with tables of garbage, a few entries longer than needed, and fails where they differ.
 fn check(call: &Call, sheet: &Sheet) -> Run {
     let mut random = Random::new(1);
     let (n, k) = (usize::from(sheet.sites), usize::from(sheet.stations));
     let mut lengths = Lengths::needed(n, k, sheet.legs().len() + 2);
+    lengths.places += 4;
     lengths.cells += 5;
     lengths.marks += 3;
     lengths.plan += 9;
@@ -56,6 +57,30 @@ fn a_grid_is_planned_alike() {
 fn a_chain_is_planned_alike() {
     assert_eq!(plan_and_read(&whole_chain(Order::Falling)), 1023);
     assert_eq!(plan_and_read(&whole_chain(Order::Mixed)), 1023);
+}
+
+/// From the last site of the row the plan leads through the whole row and the gate to the place at which every station is heard.
+#[test]
+fn a_gated_row_is_planned_alike() {
+    let sheet = gated_row(6);
+    assert_eq!(sheet.legs().len(), 8147);
+    assert_eq!(plan_and_read(&sheet), 0);
+    assert_eq!(plan_and_read(&sheet.sender(1023)), 895 + 2);
+}
+
+/// The index of legs that all end at one site, and of legs whose ends fall.
+#[test]
+fn the_index_of_many_legs_is_filled_alike() {
+    let many = |end: fn(u16) -> u16| {
+        (0..8192).fold(Sheet::new(1024, 1).landing(0, 3), |sheet, leg| {
+            sheet.link((end(leg) + 1) % 1024, end(leg), 2)
+        })
+    };
+    for sheet in [many(|_| 0), many(|_| 1023), many(|leg| 1023 - leg / 8)] {
+        let tables = check(&Call::Plan, &sheet).tables;
+        assert!(tables.by_end[..8192].is_sorted_by_key(|&leg| (tables.ends[usize::from(leg)], leg)));
+        assert_eq!((tables.places[0], tables.places[1024]), (0, 8192));
+    }
 }
 
 #[test]

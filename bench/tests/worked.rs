@@ -100,6 +100,8 @@ fn a_is_planned() {
     assert_eq!(tables.ends, [1, 2, 3, 2, 3]);
     assert_eq!(tables.prices, [4, 3, 3, 5, 6]);
     assert_eq!(tables.landings, [1028, 1024, 1025, 1026]);
+    assert_eq!(tables.by_end, [0, 1, 3, 2, 4]);
+    assert_eq!(tables.places, [0, 0, 1, 3, 5]);
     assert_eq!(tables.marks, [1, 1, 1, 1]);
     let none = u32::MAX;
     let expected = [

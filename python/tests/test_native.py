@@ -8,7 +8,7 @@ import unittest
 from typing import Any, Optional
 from unittest import mock
 
-from uldhvamm import build_plan
+from uldhvamm import Landing, Leg, build_plan, build_sheet
 from uldhvamm.library import default_path
 from uldhvamm.native import INTERFACE, functions_of
 from worked import FILE_K, FILE_L, FILE_OF_A, SHEETS
@@ -21,11 +21,16 @@ ENTRIES = {
     "ends": ctypes.c_uint16,
     "prices": ctypes.c_uint32,
     "landings": ctypes.c_uint16,
+    "by_end": ctypes.c_uint16,
+    "places": ctypes.c_uint16,
     "cells": ctypes.c_uint32,
     "marks": ctypes.c_uint8,
     "plan": ctypes.c_uint8,
     "answer": ctypes.c_uint64,
 }
+
+# Those that the plan reader is not lent.
+ENGINE_ONLY = ("by_end", "places", "cells", "plan")
 
 # What sheets A and E leave in the tables, and A with the record `SR 1` before its end.
 LEGS_OF_A = {"starts": [0, 1, 1, 0, 0], "ends": [1, 2, 3, 2, 3], "prices": [4, 3, 3, 5, 6], "landings": [1028, 1024, 1025, 1026]}
@@ -35,13 +40,14 @@ CELLS_OF_A = [
     *[0, 0, NONE, NONE, NONE, NONE, NONE, NONE],
     *[0, NONE, 0, NONE, NONE, NONE, NONE, NONE],
 ]
-TABLES_OF_A: dict[str, list[int]] = {**LEGS_OF_A, "cells": CELLS_OF_A, "marks": [1, 1, 1, 1]}
-TABLES_OF_E = {"landings": [1025, 1026], "cells": [0, 0, NONE, NONE, 0, NONE, 0, NONE], "marks": [1, 1]}
+INDEX_OF_A = {"by_end": [0, 1, 3, 2, 4], "places": [0, 0, 1, 3, 5]}
+TABLES_OF_A: dict[str, list[int]] = {**LEGS_OF_A, **INDEX_OF_A, "cells": CELLS_OF_A, "marks": [1, 1, 1, 1]}
+TABLES_OF_E = {"landings": [1025, 1026], "places": [0, 0, 0], "cells": [0, 0, NONE, NONE, 0, NONE, 0, NONE], "marks": [1, 1]}
 A_WITH_SENDER = SHEETS["A"][:-2] + b"SR\0\x01ED"
 LEGS_WITH_SENDER = {**LEGS_OF_A, "landings": [4, 1024, 1, 2]}
 
 # The least lengths for sheet A, and its plan file's.
-NEEDED = {"starts": 5, "ends": 5, "prices": 5, "landings": 4, "cells": 32, "marks": 4, "plan": 22}
+NEEDED = {"starts": 5, "ends": 5, "prices": 5, "landings": 4, "by_end": 5, "places": 5, "cells": 32, "marks": 4, "plan": 22}
 
 
 def over(first: list[int], entries: list[int]) -> list[int]:
@@ -63,7 +69,7 @@ class Native(unittest.TestCase):
         strings = [sheet] if file is None else [sheet, file]
         arguments: list[Any] = [part for string in strings for part in (string, len(string))]
         for name in ENTRIES:
-            if file is None or name not in ("cells", "plan"):
+            if file is None or name not in ENGINE_ONLY:
                 arguments += [arrays[name], lengths[name]]
         number = (self.functions.plan if file is None else self.functions.read_plan)(*arguments)
         return number, before, {name: list(array) for name, array in arrays.items()}
@@ -107,15 +113,15 @@ class Native(unittest.TestCase):
             self.tried(SHEETS[name], FILE_OF_A, number, [place], {})
 
     def test_short_tables_write_the_place_alone(self) -> None:
-        for name in ["starts", "ends", "prices", "landings", "cells", "marks"]:
+        for name in ["starts", "ends", "prices", "landings", "by_end", "places", "cells", "marks"]:
             for length in [0, NEEDED[name] - 1]:
                 self.tried(SHEETS["A"], None, 11, [0], {}, **{name: length})
-                if name != "cells":
+                if name not in ENGINE_ONLY:
                     self.tried(SHEETS["A"], FILE_OF_A, 11, [0], {}, **{name: length})
 
     def test_no_plan_fills_the_tables(self) -> None:
         self.tried(SHEETS["E"], None, 12, [0], TABLES_OF_E)
-        self.tried(SHEETS["E"], None, 12, [0], TABLES_OF_E, plan=0, starts=0, ends=0, prices=0)
+        self.tried(SHEETS["E"], None, 12, [0], TABLES_OF_E, plan=0, starts=0, ends=0, prices=0, by_end=0)
 
     def test_no_plan_for_want_of_a_licence_fills_the_tables(self) -> None:
         self.tried(A_WITH_SENDER, None, 12, [0], {**TABLES_OF_A, **LEGS_WITH_SENDER})
@@ -124,6 +130,20 @@ class Native(unittest.TestCase):
     def test_a_short_buffer_is_untouched(self) -> None:
         for length in [0, 10, 21]:
             self.tried(SHEETS["A"], None, 13, [0], TABLES_OF_A, plan=length)
+
+    def test_the_index_of_random_sheets(self) -> None:
+        for _ in range(300):
+            sites = self.chance.randint(2, 40)
+            legs = [Leg(*self.chance.sample(range(sites), 2), price=1) for _ in range(self.chance.randint(0, 60))]
+            sheet = build_sheet(sites, 1, [*legs, Landing(0, 0)])
+            for_legs = dict.fromkeys(["starts", "ends", "prices", "by_end"], len(legs))
+            for_sites = {"landings": sites, "places": sites + 1, "cells": 2 * sites, "marks": sites}
+            number, before, after = self.call(sheet, None, {**NEEDED, **for_legs, **for_sites, "answer": 3})
+            by_end = sorted(range(len(legs)), key=lambda leg: legs[leg].end)
+            places = [sum(leg.end < site for leg in legs) for site in range(sites + 1)]
+            self.assertEqual(number, 0)
+            self.assertEqual(after["by_end"], over(by_end, before["by_end"]), sheet)
+            self.assertEqual(after["places"], over(places, before["places"]), sheet)
 
     def test_an_acceptance(self) -> None:
         self.tried(SHEETS["A"], FILE_OF_A, 0, [0, 10, 3], {**LEGS_OF_A, "marks": [1, 1, 1, 1]})
@@ -145,10 +165,10 @@ class Native(unittest.TestCase):
     def test_null_pointers_for_empty_tables(self) -> None:
         empty: list[Any] = [None, 0]
         answer = (ctypes.c_uint64 * 3)(9, 9, 9)
-        self.assertEqual(self.functions.plan(*empty * 8, answer, 3), 1)
+        self.assertEqual(self.functions.plan(*empty * 10, answer, 3), 1)
         self.assertEqual(self.functions.read_plan(*empty * 7, answer, 3), 1)
         self.assertEqual(list(answer), [0, 9, 9])
-        self.assertEqual(self.functions.plan(SHEETS["A"], 72, *empty * 8), 11)
+        self.assertEqual(self.functions.plan(SHEETS["A"], 72, *empty * 10), 11)
         self.assertEqual(self.functions.read_plan(SHEETS["A"], 72, *empty * 7), 11)
         self.assertEqual(self.functions.cell(*empty, 1, 1, 0, 0, *empty), 11)
         self.assertEqual(self.functions.best_sender(*empty, *empty, 1, 1, 0, *empty), 11)

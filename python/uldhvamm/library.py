@@ -25,8 +25,10 @@ _FINISHED = (0, 12, 13)
 
 # The types of the tables for a sheet at the limits. A plan file has 10 bytes and 4 for each leg, and a tree has fewer legs than sites.
 _LegSites = ctypes.c_uint16 * MAX_LEGS
+_LegNumbers = ctypes.c_uint16 * MAX_LEGS
 _LegPrices = ctypes.c_uint32 * MAX_LEGS
 _SiteSets = ctypes.c_uint16 * MAX_SITES
+_SitePlaces = ctypes.c_uint16 * (MAX_SITES + 1)
 _SiteMarks = ctypes.c_uint8 * MAX_SITES
 _PlanBytes = ctypes.c_uint8 * (10 + 4 * (MAX_SITES - 1))
 _Answer = ctypes.c_uint64 * 3
@@ -36,7 +38,7 @@ _Value = ctypes.c_uint64 * 1
 class _Tables:
     """The tables and the buffer that one call is lent, and its answer.
 
-    All but the cells have the length that a sheet at the limits needs, about 70 kB together. So they are long enough for every good
+    All but the cells have the length that a sheet at the limits needs, about 90 kB together. So they are long enough for every good
     sheet, and no other sheet needs any. The cells of a sheet at the limits have 4 MB, which take longer to clear than a small sheet
     takes to plan. So their number is taken from the head, by `_cells_for`.
     """
@@ -46,6 +48,8 @@ class _Tables:
         self.ends = _LegSites()
         self.prices = _LegPrices()
         self.landings = _SiteSets()
+        self.by_end = _LegNumbers()
+        self.places = _SitePlaces()
         self.cells = (ctypes.c_uint32 * cells)()
         self.marks = _SiteMarks()
         self.plan = _PlanBytes()
@@ -145,6 +149,8 @@ class Library:
             *_lent(tables.ends),
             *_lent(tables.prices),
             *_lent(tables.landings),
+            *_lent(tables.by_end),
+            *_lent(tables.places),
             *_lent(tables.cells),
             *_lent(tables.marks),
             *_lent(tables.plan),

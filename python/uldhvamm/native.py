@@ -21,8 +21,11 @@ _NUMBER: list[Any] = [ctypes.c_uint32]
 # starts, ends, prices, landings
 _LEGS_AND_LANDINGS: list[Any] = [*_TABLE_16, *_TABLE_16, *_TABLE_32, *_TABLE_16]
 
-# sheet, legs and landings, cells, marks, plan buffer, answer
-_PLAN: list[Any] = [*_BYTES, *_LEGS_AND_LANDINGS, *_TABLE_32, *_TABLE_8, *_TABLE_8, *_TABLE_64]
+# by_end, places
+_INDEX: list[Any] = [*_TABLE_16, *_TABLE_16]
+
+# sheet, legs and landings, index of the legs, cells, marks, plan buffer, answer
+_PLAN: list[Any] = [*_BYTES, *_LEGS_AND_LANDINGS, *_INDEX, *_TABLE_32, *_TABLE_8, *_TABLE_8, *_TABLE_64]
 
 # sheet, plan file, legs and landings, marks, answer
 _READ_PLAN: list[Any] = [*_BYTES, *_BYTES, *_LEGS_AND_LANDINGS, *_TABLE_8, *_TABLE_64]
@@ -35,7 +38,7 @@ _BEST_SENDER: list[Any] = [*_TABLE_32, *_TABLE_16, *_NUMBER, *_NUMBER, *_NUMBER,
 
 
 # The number of the interface that is declared here.
-INTERFACE = 2
+INTERFACE = 3
 
 
 class Functions(NamedTuple):

@@ -8,7 +8,7 @@
 use crate::tables::{Answer, CostTable, Enquiry, Lent, Question, Tables};
 
 /// The number of the interface that is declared here.
-pub const INTERFACE: u32 = 2;
+pub const INTERFACE: u32 = 3;
 
 /// The most sites, stations and legs of a sheet.
 pub const MAX_SITES: usize = 1024;
@@ -35,6 +35,10 @@ extern "C" {
         prices_length: usize,
         landings: *mut u16,
         landings_length: usize,
+        by_end: *mut u16,
+        by_end_length: usize,
+        places: *mut u16,
+        places_length: usize,
         cells: *mut u32,
         cells_length: usize,
         marks: *mut u8,
@@ -108,7 +112,8 @@ pub fn plan(sheet: &[u8], tables: &mut Tables, answer: &mut [u64]) -> u32 {
     plan_lent(sheet, tables.lend(), answer)
 }
 
-/// Reads a plan file against a sheet. Returns 0 for an acceptance, else the number of the refusal. Cells and plan buffer are not lent.
+/// Reads a plan file against a sheet. Returns 0 for an acceptance, else the number of the refusal. The index of the legs, the cells and the
+/// plan buffer are not lent.
 pub fn read_plan(sheet: &[u8], file: &[u8], tables: &mut Tables, answer: &mut [u64]) -> u32 {
     read_plan_lent(sheet, file, tables.lend(), answer)
 }
@@ -129,6 +134,10 @@ pub fn plan_lent(sheet: &[u8], lent: Lent, answer: &mut [u64]) -> u32 {
             lent.prices.len(),
             lent.landings.as_mut_ptr(),
             lent.landings.len(),
+            lent.by_end.as_mut_ptr(),
+            lent.by_end.len(),
+            lent.places.as_mut_ptr(),
+            lent.places.len(),
             lent.cells.as_mut_ptr(),
             lent.cells.len(),
             lent.marks.as_mut_ptr(),
@@ -141,7 +150,7 @@ pub fn plan_lent(sheet: &[u8], lent: Lent, answer: &mut [u64]) -> u32 {
     }
 }
 
-/// `read_plan` with slices. The cells and the plan buffer of `lent` are left out.
+/// `read_plan` with slices. The index of the legs, the cells and the plan buffer of `lent` are left out.
 pub fn read_plan_lent(sheet: &[u8], file: &[u8], lent: Lent, answer: &mut [u64]) -> u32 {
     check_interface();
     // SAFETY: each pointer and length are those of one slice; the mutable slices overlap nothing.

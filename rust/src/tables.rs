@@ -9,6 +9,8 @@ pub struct Lengths {
     pub ends: usize,
     pub prices: usize,
     pub landings: usize,
+    pub by_end: usize,
+    pub places: usize,
     pub cells: usize,
     pub marks: usize,
     pub plan: usize,
@@ -22,6 +24,8 @@ impl Lengths {
             ends: m,
             prices: m,
             landings: n,
+            by_end: m,
+            places: n + 1,
             cells: n << k,
             marks: n,
             plan: 10 + 4 * n.saturating_sub(1),
@@ -30,12 +34,15 @@ impl Lengths {
 }
 
 /// The lent tables and the plan buffer. An entry of `landings` is the site's set of stations, and `SENDER_FLAG` more where it may send.
+/// `by_end` has the leg numbers by end, in leg order within, and entry v of `places` the number of legs that end at a site below v.
 #[derive(Clone, Debug, PartialEq, Eq)]
 pub struct Tables {
     pub starts: Vec<u16>,
     pub ends: Vec<u16>,
     pub prices: Vec<u32>,
     pub landings: Vec<u16>,
+    pub by_end: Vec<u16>,
+    pub places: Vec<u16>,
     pub cells: Vec<u32>,
     pub marks: Vec<u8>,
     pub plan: Vec<u8>,
@@ -59,6 +66,8 @@ impl Tables {
             ends: (0..lengths.ends).map(|_| contents() as u16).collect(),
             prices: (0..lengths.prices).map(|_| contents() as u32).collect(),
             landings: (0..lengths.landings).map(|_| contents() as u16).collect(),
+            by_end: (0..lengths.by_end).map(|_| contents() as u16).collect(),
+            places: (0..lengths.places).map(|_| contents() as u16).collect(),
             cells: (0..lengths.cells).map(|_| contents() as u32).collect(),
             marks: (0..lengths.marks).map(|_| contents() as u8).collect(),
             plan: (0..lengths.plan).map(|_| contents() as u8).collect(),
@@ -71,6 +80,8 @@ impl Tables {
         self.ends.clone_from(&other.ends);
         self.prices.clone_from(&other.prices);
         self.landings.clone_from(&other.landings);
+        self.by_end.clone_from(&other.by_end);
+        self.places.clone_from(&other.places);
         self.cells.clone_from(&other.cells);
         self.marks.clone_from(&other.marks);
         self.plan.clone_from(&other.plan);
@@ -83,6 +94,8 @@ impl Tables {
             ends: &mut self.ends,
             prices: &mut self.prices,
             landings: &mut self.landings,
+            by_end: &mut self.by_end,
+            places: &mut self.places,
             cells: &mut self.cells,
             marks: &mut self.marks,
             plan: &mut self.plan,
@@ -96,6 +109,8 @@ pub struct Lent<'a> {
     pub ends: &'a mut [u16],
     pub prices: &'a mut [u32],
     pub landings: &'a mut [u16],
+    pub by_end: &'a mut [u16],
+    pub places: &'a mut [u16],
     pub cells: &'a mut [u32],
     pub marks: &'a mut [u8],
     pub plan: &'a mut [u8],

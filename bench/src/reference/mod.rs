@@ -2,11 +2,11 @@
 //!
 //! What the tables, the plan buffer and `answer` hold after the planning:
 //! - 1 to 11: all as before, but `answer` has the place;
-//! - 12 and 13: the first entries of the tables hold legs, landing sets with the senders' flags, costs, and marks of 1; the plan buffer
-//!   is as before; `answer` has the place 0;
+//! - 12 and 13: the first entries of the tables hold legs, landing sets with the senders' flags, the index of the legs by their end, costs,
+//!   and marks of 1; the plan buffer is as before; `answer` has the place 0;
 //! - a plan: the tables as for 12, the plan buffer begins with the plan file, `answer` has root, total and number of legs.
 //!
-//! After the reading of a plan file, which leaves cells and plan buffer alone:
+//! After the reading of a plan file, which leaves the index, the cells and the plan buffer alone:
 //! - 1 to 11: all as before, but `answer` has the place;
 //! - 14, 15 and 16: leg tables and landing sets filled, marks as before; `answer` has the place;
 //! - 17, 20, 18 and 19: these filled too, and the first n marks 1 for sites reached from the root, else 0; `answer` has the place 0;
@@ -18,6 +18,7 @@
 
 mod enquirer;
 mod groups;
+mod index;
 mod layout;
 mod plan_file;
 mod search;
@@ -74,14 +75,15 @@ fn send_back(outcome: Result<PlanFile, Refusal>, answer: &mut [u64]) -> u32 {
     }
 }
 
-/// The planning: the sheet, 11, the tables, 12, the layout, 13, the file.
+/// The planning: the sheet, 11, the tables with the index, 12, the layout, 13, the file.
 fn planned(bytes: &[u8], tables: &mut Tables) -> Result<PlanFile, Refusal> {
     let sheet = sheet::read(bytes)?;
     let size = sheet.sites << sheet.stations;
-    if !has_room(&sheet, tables) || tables.cells.len() < size {
+    if !has_room(&sheet, tables) || !has_index_room(&sheet, tables) || tables.cells.len() < size {
         return Err(Refusal::at(11, 0));
     }
     load(&sheet, tables);
+    index::fill(&sheet, tables);
     search::fill(&sheet, &mut tables.cells[..size]);
     tables.marks[..sheet.sites].fill(1);
     let root = layout::best_root(&sheet, &tables.cells).ok_or(Refusal::at(12, 0))?;
@@ -114,6 +116,11 @@ fn has_room(sheet: &Sheet, tables: &Tables) -> bool {
         && tables.prices.len() >= legs
         && tables.landings.len() >= sheet.sites
         && tables.marks.len() >= sheet.sites
+}
+
+/// Whether both tables of the index are long enough: an entry for each leg, and one more than there are sites.
+fn has_index_room(sheet: &Sheet, tables: &Tables) -> bool {
+    tables.by_end.len() >= sheet.legs.len() && tables.places.len() > sheet.sites
 }
 
 /// Fills the leg tables and the landing sets.

@@ -13,6 +13,8 @@ pub struct Left {
     pub ends: [u16; 8],
     pub prices: [u32; 8],
     pub landings: [u16; 6],
+    pub by_end: [u16; 8],
+    pub places: [u16; 7],
     pub cells: [u32; 34],
     pub marks: [u8; 6],
     pub plan: [u8; 24],
@@ -26,6 +28,8 @@ pub const BEFORE: Left = Left {
     ends: [60_002; 8],
     prices: [4_000_000_003; 8],
     landings: [65_535; 6],
+    by_end: [60_003; 8],
+    places: [60_004; 7],
     cells: [4_000_000_005; 34],
     marks: [9; 6],
     plan: [238; 24],
@@ -56,6 +60,8 @@ impl Left {
             ends: &mut self.ends,
             prices: &mut self.prices,
             landings: &mut self.landings,
+            by_end: &mut self.by_end,
+            places: &mut self.places,
             cells: &mut self.cells,
             marks: &mut self.marks,
             plan: &mut self.plan,
@@ -94,6 +100,22 @@ impl Left {
         }
         for (site, &heard) in small.landings.iter().enumerate() {
             self.landings[site] = heard + if small.may_send(site) { 1024 } else { 0 };
+        }
+        self
+    }
+
+    /// The index filled: site after site the legs that end there, and for each site, and one more, the number of legs that end below it.
+    pub fn indexed(mut self, small: &Small) -> Left {
+        let ends = || small.legs.iter().map(|leg| usize::from(leg.to)).enumerate();
+        let mut next = 0;
+        for site in 0..small.sites {
+            for (leg, _) in ends().filter(|&(_, end)| end == site) {
+                self.by_end[next] = leg as u16;
+                next += 1;
+            }
+        }
+        for site in 0..=small.sites {
+            self.places[site] = ends().filter(|&(_, end)| end < site).count() as u16;
         }
         self
     }

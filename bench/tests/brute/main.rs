@@ -64,7 +64,7 @@ impl Counts {
 
 /// What the engine is to leave on a sheet: the plan from the lowest root of the best trees, or 12 where there are none.
 fn due_plan(small: &Small, cells: &[u32], best: &[&Tree]) -> Left {
-    let mut due = BEFORE.filled(small).marked(small, u32::MAX);
+    let mut due = BEFORE.filled(small).indexed(small).marked(small, u32::MAX);
     due.cells[..cells.len()].copy_from_slice(cells);
     let Some(tree) = best.iter().min_by_key(|tree| tree.root) else {
         return due.refused(12, 0);

@@ -5,8 +5,9 @@
 //! with `#` are passed over. No two cases of a file print the same name.
 //!
 //! What is lent to the cases after it:
-//! - `tables STARTS ENDS PRICES LANDINGS CELLS MARKS PLAN`: tables of so many entries and a plan buffer of so many bytes.
-//! - `lend STARTS ENDS PRICES LANDINGS CELLS MARKS PLAN`: of these, so many of the first entries; `lend all`: all, as after `tables`.
+//! - `tables STARTS ENDS PRICES LANDINGS BY_END PLACES CELLS MARKS PLAN`: tables of so many entries and a plan buffer of so many bytes.
+//! - `lend STARTS ENDS PRICES LANDINGS BY_END PLACES CELLS MARKS PLAN`: of these, so many of the first entries; `lend all`: all, as after
+//!   `tables`.
 //! - `fill VALUE`: what each cell holds before a planning, in place of 4000000005.
 //!
 //! Sheets and plan files:

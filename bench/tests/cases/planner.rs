@@ -58,6 +58,8 @@ fn first(tables: &mut Tables, lent: Lengths) -> Lent<'_> {
         ends: &mut tables.ends[..lent.ends],
         prices: &mut tables.prices[..lent.prices],
         landings: &mut tables.landings[..lent.landings],
+        by_end: &mut tables.by_end[..lent.by_end],
+        places: &mut tables.places[..lent.places],
         cells: &mut tables.cells[..lent.cells],
         marks: &mut tables.marks[..lent.marks],
         plan: &mut tables.plan[..lent.plan],
@@ -72,6 +74,8 @@ fn with_copies(tables: &mut Tables, lent: Lengths, call: impl FnOnce(&mut Tables
         ends: part.ends.to_vec(),
         prices: part.prices.to_vec(),
         landings: part.landings.to_vec(),
+        by_end: part.by_end.to_vec(),
+        places: part.places.to_vec(),
         cells: part.cells.to_vec(),
         marks: part.marks.to_vec(),
         plan: part.plan.to_vec(),
@@ -81,6 +85,8 @@ fn with_copies(tables: &mut Tables, lent: Lengths, call: impl FnOnce(&mut Tables
     part.ends.copy_from_slice(&copies.ends);
     part.prices.copy_from_slice(&copies.prices);
     part.landings.copy_from_slice(&copies.landings);
+    part.by_end.copy_from_slice(&copies.by_end);
+    part.places.copy_from_slice(&copies.places);
     part.cells.copy_from_slice(&copies.cells);
     part.marks.copy_from_slice(&copies.marks);
     part.plan.copy_from_slice(&copies.plan);

@@ -48,8 +48,15 @@ pub fn engine_tables(tables: &Tables) -> String {
         [] => "  plan buffer\n".to_string(),
         _ => format!("  plan buffer {}\n", hexadecimal(&tables.plan)),
     };
-    let (cells, marks) = (table("cells", &tables.cells), table("marks", &tables.marks));
-    buffer + &sheet_tables(tables) + &cells + &marks
+    let lines = [
+        buffer,
+        sheet_tables(tables),
+        table("legs by end", &tables.by_end),
+        table("places", &tables.places),
+        table("cells", &tables.cells),
+        table("marks", &tables.marks),
+    ];
+    lines.concat()
 }
 
 /// The entries of a table after a word, or their number and check value.
