@@ -12,7 +12,7 @@ ghost use Rattle.order_ranges.specs.laws.Ranges.{Ordered, OneSize, entryOf};
 ghost use Rattle.working_none.specs.laws.Low.{AllLow};
 ghost use Rattle.lanes.specs.laws.Four.{nth, nthNumber, FourLow};
 ghost use Rattle.lanes.specs.laws.WriteFour.{writeRows};
-ghost use Rattle.splits.specs.laws.FourRows.{sumFour, rowsAt, Rows};
+ghost use Rattle.splits.specs.laws.FourRows.{sumFour, rowsAt, listOf, costsIn, FourLists, cellsAt, Rows, IsRow};
 ghost use Rattle.splits.specs.laws.BestSplit.{BestSplits};
 ghost use Rattle.splits.specs.laws.SplitRows.{FourSplit, SplitTo};
 
@@ -29,21 +29,20 @@ fn sum_of(x: Four, y: Four) -> Four
     }
 }
 
-// The cells of four sites and the set w.
-fn read_rows(cells: &[Cost], size: usize, rows: FourNumbers, w: usize) -> Four
-    requires { ⌜ (rows .a * size + w < length (now cells)) × (rows .b * size + w < length (now cells))
-        × (rows .c * size + w < length (now cells)) × (rows .d * size + w < length (now cells)) ⌝ }
-    ensures { λ r. ⌜ r ≡ rowsAt (now (cells .entry)) size (nthNumber rows) w ⌝ }
+// The cells of four sites and the set w; each site has a slice of its own.
+fn read_rows(first: &[Cost], second: &[Cost], third: &[Cost], fourth: &[Cost], w: usize) -> Four
+    requires { ⌜ (w < length (now first)) × (w < length (now second)) × (w < length (now third)) × (w < length (now fourth)) ⌝ }
+    ensures { λ r. ⌜ r ≡ rowsAt (costsIn (listOf (now (first .entry)) (now (second .entry)) (now (third .entry)) (now (fourth .entry)))) w ⌝ }
 {
     Four {
-        a: cells[rows.a * size + w],
-        b: cells[rows.b * size + w],
-        c: cells[rows.c * size + w],
-        d: cells[rows.d * size + w],
+        a: first[w],
+        b: second[w],
+        c: third[w],
+        d: fourth[w],
     }
 }
 
-// They are written; where two of the sites are one, the later value counts.
+// Those of four sites in a table are written; where two of the sites are one, the later value counts.
 fn write_rows(cells: &mut [Cost], size: usize, rows: FourNumbers, w: usize, four: Four)
     requires { ⌜ (rows .a * size + w < length (now cells)) × (rows .b * size + w < length (now cells))
         × (rows .c * size + w < length (now cells)) × (rows .d * size + w < length (now cells)) ⌝ }
@@ -56,21 +55,45 @@ fn write_rows(cells: &mut [Cost], size: usize, rows: FourNumbers, w: usize, four
 }
 
 // Of each of four sites, the least of the cell of the set w and of its splits into two parts, by their greater part.
-fn best_splits(cells: &[Cost], size: usize, rows: FourNumbers, w: usize) -> Four
-    requires { ⌜ Rows (now cells) size (nthNumber rows) × (0 < w) × (w < size) ⌝ }
-    ensures { λ r. ⌜ BestSplits (now (cells .entry)) size (nthNumber rows) w r ⌝ }
+fn best_splits(first: &[Cost], second: &[Cost], third: &[Cost], fourth: &[Cost], w: usize) -> Four
+    requires { ⌜ FourLists (listOf (now first) (now second) (now third) (now fourth)) w × (0 < w) ⌝ }
+    ensures { λ r. ⌜ BestSplits (costsIn (listOf (now (first .entry)) (now (second .entry)) (now (third .entry)) (now (fourth .entry)))) w r ⌝ }
 {
-    let mut best = read_rows(cells, size, rows, w);
+    let mut best = read_rows(first, second, third, fourth, w);
     let mut y = (w - 1) & w;
     while w < y + y {
         let sums = sum_of(
-            read_rows(cells, size, rows, y),
-            read_rows(cells, size, rows, w - y),
+            read_rows(first, second, third, fourth, y),
+            read_rows(first, second, third, fourth, w - y),
         );
         best = lesser_of(sums, best);
         y = (y - 1) & w;
     }
     best
+}
+
+// The cells of site v, in a table with so many cells for each site.
+fn row_of(cells: &[Cost], size: usize, v: usize) -> &[Cost]
+    requires { ⌜ v * size + size ≤ length (now cells) ⌝ }
+    ensures { λ r. ⌜ IsRow (now (cells .entry)) size v (now r) ⌝ }
+{
+    let from = v * size;
+    let to = from + size;
+    &cells[from..to]
+}
+
+// The same least ones for four sites of a table.
+fn best_at(cells: &[Cost], size: usize, rows: FourNumbers, w: usize) -> Four
+    requires { ⌜ Rows (now cells) size (nthNumber rows) × (0 < w) × (w < size) ⌝ }
+    ensures { λ r. ⌜ BestSplits (cellsAt (now (cells .entry)) size (nthNumber rows)) w r ⌝ }
+{
+    best_splits(
+        row_of(cells, size, rows.a),
+        row_of(cells, size, rows.b),
+        row_of(cells, size, rows.c),
+        row_of(cells, size, rows.d),
+        w,
+    )
 }
 
 // Each set at the positions from `first` up to `last` of the order, which have one size: its cells at four sites become these least ones.
@@ -89,7 +112,7 @@ fn split_four(
     let mut position = first;
     while position < last {
         let w = sets[position] as usize;
-        write_rows(cells, size, rows, w, best_splits(cells, size, rows, w));
+        write_rows(cells, size, rows, w, best_at(cells, size, rows, w));
         position += 1;
     }
 }

@@ -47,13 +47,10 @@ fn soonest(turns: &[u64], i: usize) -> u64
     sooner(low, high)
 }
 
-// Site v has a turn by a cost, where it is one; the least of its costs counts.
+// Site v has a turn by a cost; the least of its costs counts.
 pub fn enter(v: usize, cost: Cost, turns: &mut [u64])
     requires { ⌜ (length (now turns) ≡ turnEntries) × (v < maxNodes) ⌝ }
 {
-    if cost == WORKING_NONE {
-        return;
-    }
     let turn = (cost as u64) * 1024 + (v as u64);
     turns[v] = sooner(turn, turns[v]);
     let group = GROUPS + v / 8;
@@ -92,14 +89,68 @@ pub fn least_of(four: Four) -> Cost {
     lesser(lesser(four.a, four.b), lesser(four.c, four.d))
 }
 
-// A turn for each site that has a finite cell.
-pub fn enter_all(lanes: &[Cost], n: usize, turns: &mut [u64])
+// A cost, or 0 where it is "none".
+fn finite(cost: Cost) -> Cost {
+    if cost == WORKING_NONE {
+        return 0;
+    }
+    cost
+}
+
+// The greater of two costs.
+fn greater(x: Cost, y: Cost) -> Cost {
+    if x < y {
+        return y;
+    }
+    x
+}
+
+// The greatest of four costs but for those that are "none".
+pub fn greatest_of(four: Four) -> Cost {
+    greater(
+        greater(finite(four.a), finite(four.b)),
+        greater(finite(four.c), finite(four.d)),
+    )
+}
+
+// Site v, which has these cells, has a turn by the greatest that is finite, where there is one.
+fn enter_by_greatest(v: usize, here: Four, turns: &mut [u64])
+    requires { ⌜ (length (now turns) ≡ turnEntries) × (v < maxNodes) ⌝ }
+{
+    if least_of(here) == WORKING_NONE {
+        return;
+    }
+    enter(v, greatest_of(here), turns);
+}
+
+// Site v, which has these cells, has its turn by the least of them, where it has a turn.
+fn enter_by_least(v: usize, here: Four, turns: &mut [u64])
+    requires { ⌜ (length (now turns) ≡ turnEntries) × (v < maxNodes) ⌝ }
+{
+    if turns[v] == NO_TURN {
+        return;
+    }
+    enter(v, least_of(here), turns);
+}
+
+// The one where the sites wait, else the other.
+fn enter_site(waits: bool, v: usize, here: Four, turns: &mut [u64])
+    requires { ⌜ (length (now turns) ≡ turnEntries) × (v < maxNodes) ⌝ }
+{
+    if waits {
+        enter_by_greatest(v, here, turns);
+        return;
+    }
+    enter_by_least(v, here, turns);
+}
+
+// Where the sites wait, each that has a finite cell has a turn, by the greatest of them; else each that has a turn has it by the least of its cells.
+pub fn enter_all(waits: bool, lanes: &[Cost], n: usize, turns: &mut [u64])
     requires { ⌜ (length (now turns) ≡ turnEntries) × (n ≤ maxNodes) × (n * 4 ≤ length (now lanes)) ⌝ }
 {
     let mut v = 0;
     while v < n {
-        let cost = least_of(lanes_of(lanes, v));
-        enter(v, cost, turns);
+        enter_site(waits, v, lanes_of(lanes, v), turns);
         v += 1;
     }
 }

@@ -1,5 +1,5 @@
-// A first lowering of the cells of four sets along the legs: a site whose cells fell has a turn, the site with the least fallen cost first, and in
-// its turn the legs that end there are tried, by the index. It only makes the settling short: that no leg gives less is found there.
+// A first lowering of the cells of four sets along the legs: a site whose cells fell has a turn, the site with the least cost first, and in its turn
+// the legs that end there are tried, by the index. It only makes the settling short: that no leg gives less is found there.
 use limits::Cost;
 use turn_table::ENTRIES;
 use turn_table::NO_TURN;
@@ -8,18 +8,30 @@ use turn_table::leave;
 use turn_table::next_site;
 use visits::visit;
 ghost use mathlib.Core.Path.{_≡_};
+ghost use Prim.Native.Nat.{_≤_};
 ghost use lib.ListN.{length};
+ghost use Rattle.limits.specs.Limits.{maxNodes};
 ghost use Rattle.turn_table.specs.laws.Entries.{turnEntries};
 ghost use Rattle.visits.specs.laws.ByIndex.{SomeArcs, LoweredByIndex};
 
-// Turn after turn, the least first. In each turn a cell of the site that fell since its last turn falls no more: so a site has no more than four
-// turns, and no more are taken.
+// How many turns are taken at most.
+fn most_turns(waits: bool, n: usize) -> usize
+    requires { ⌜ n ≤ maxNodes ⌝ }
+{
+    if waits {
+        return n + n / 4;
+    }
+    5 * n
+}
+
+// Turn after turn, the least first.
 fn take_turns(
     starts: &[u16],
     weights: &[u32],
     index: &[u16],
     places: &[u16],
     n: usize,
+    waits: bool,
     lanes: &mut [Cost],
     turns: &mut [u64],
 )
@@ -27,19 +39,22 @@ fn take_turns(
     ensures { λ _. ⌜ LoweredByIndex n (now (starts .entry)) (now (weights .entry)) (now (index .entry)) (now (places .entry))
         (now (lanes .entry)) (now (lanes .exit)) ⌝ }
 {
-    let mut left = 4 * n;
+    enter_all(waits, lanes, n, turns);
+    let mut left = most_turns(waits, n);
     while 0 < left {
         let v = next_site(turns);
         if n <= v {
             return;
         }
         leave(v, turns);
-        visit(starts, weights, index, places, n, v, lanes, turns);
+        visit(starts, weights, index, places, n, waits, v, lanes, turns);
         left -= 1;
     }
 }
 
-// The cells of four sets, lowered along the legs by turns.
+// The cells of four sets, lowered along the legs by turns. At first the sites wait: a site has its turn by the greatest of its cells, so that most sites
+// have one turn, when their cells of all four sets have fallen. Then they do not, and a site has its turn by the least cost to which a cell fell: in
+// each turn but the first of a site, a cell that fell since its last turn falls no more, so that 5 n turns are enough.
 pub fn lower_by_turns(
     starts: &[u16],
     weights: &[u32],
@@ -53,6 +68,6 @@ pub fn lower_by_turns(
         (now (lanes .entry)) (now (lanes .exit)) ⌝ }
 {
     let mut turns = [NO_TURN; ENTRIES];
-    enter_all(lanes, n, &mut turns);
-    take_turns(starts, weights, index, places, n, lanes, &mut turns);
+    take_turns(starts, weights, index, places, n, true, lanes, &mut turns);
+    take_turns(starts, weights, index, places, n, false, lanes, &mut turns);
 }

@@ -1,11 +1,13 @@
 // The turn of one site: the legs that end there, by the index, lower the cells of their starts, and these have a turn.
 use lanes::Four;
 use lanes::lanes_of;
+use lanes::lesser_of;
 use limits::Cost;
 use settling::along;
 use settling::falls;
 use settling::lower;
 use turn_table::enter;
+use turn_table::greatest_of;
 use turn_table::least_of;
 use working_none::WORKING_NONE;
 ghost use mathlib.Core.Path.{_≡_};
@@ -14,7 +16,8 @@ ghost use lib.ListN.{length};
 ghost use Rattle.limits.specs.Limits.{maxNodes};
 ghost use Rattle.settling.specs.laws.LowerFour.{LoweredAt};
 ghost use Rattle.turn_table.specs.laws.Entries.{turnEntries};
-ghost use Rattle.visits.specs.laws.ByIndex.{SomeArcs, LoweredByIndex};
+ghost use Rattle.lanes.specs.laws.Four.{FourLow};
+ghost use Rattle.visits.specs.laws.ByIndex.{SomeArcs, Entries, LoweredByIndex};
 
 // What a cell falls to, or "none" where it does not fall.
 fn fallen(new: Cost, old: Cost) -> Cost {
@@ -24,23 +27,53 @@ fn fallen(new: Cost, old: Cost) -> Cost {
     WORKING_NONE
 }
 
-// Where a cell of site u is above what a leg gives, it falls, and the site has a turn by the least that its cells fall to.
-fn lower_in_turn(u: usize, by: Four, lanes: &mut [Cost], turns: &mut [u64])
-    requires { ⌜ (length (now turns) ≡ turnEntries) × (u < maxNodes) × (u * 4 + 4 ≤ length (now lanes)) ⌝ }
-    ensures { λ _. ⌜ LoweredAt u by (now (lanes .entry)) (now (lanes .exit)) ⌝ }
-{
-    if !falls(lanes, u, by) {
-        return;
+// By which cost a site has a turn whose cells fall from `old` to `by`, each where that is less: where the sites wait, by the greatest finite cell that
+// it has then, else by the least to which one falls.
+fn turn_cost(waits: bool, by: Four, old: Four) -> Cost {
+    if waits {
+        return greatest_of(lesser_of(by, old));
     }
-    let old = lanes_of(lanes, u);
-    let cost = least_of(Four {
+    least_of(Four {
         a: fallen(by.a, old.a),
         b: fallen(by.b, old.b),
         c: fallen(by.c, old.c),
         d: fallen(by.d, old.d),
-    });
+    })
+}
+
+// Each cell of site u that is above what a leg gives falls to it, and the site has a turn.
+fn lower_in_turn(waits: bool, u: usize, by: Four, lanes: &mut [Cost], turns: &mut [u64])
+    requires { ⌜ (length (now turns) ≡ turnEntries) × (u < maxNodes) × (u * 4 + 4 ≤ length (now lanes)) ⌝ }
+    ensures { λ _. ⌜ LoweredAt u by (now (lanes .entry)) (now (lanes .exit)) ⌝ }
+{
+    let cost = turn_cost(waits, by, lanes_of(lanes, u));
     enter(u, cost, turns);
     lower(lanes, u, by);
+}
+
+// The first entry of the index, from `from` on, whose leg gives its start less than that has, where the legs end at a site with these cells; or `end`.
+fn next_falling(
+    starts: &[u16],
+    weights: &[u32],
+    index: &[u16],
+    here: Four,
+    from: usize,
+    end: usize,
+    lanes: &[Cost],
+) -> usize
+    requires { ⌜ FourLow here × Entries (now starts) (now weights) (now index) (now lanes) from end ⌝ }
+    ensures { λ r. ⌜ from ≤ r ⌝ }
+{
+    let mut i = from;
+    while i < end {
+        let e = index[i] as usize;
+        let given = along(here, weights[e]);
+        if falls(lanes, starts[e] as usize, given) {
+            return i;
+        }
+        i += 1;
+    }
+    i
 }
 
 // The legs that end at site v, by the index: where one gives less, the cells of its start fall.
@@ -50,6 +83,7 @@ pub fn visit(
     index: &[u16],
     places: &[u16],
     n: usize,
+    waits: bool,
     v: usize,
     lanes: &mut [Cost],
     turns: &mut [u64],
@@ -61,12 +95,13 @@ pub fn visit(
 {
     let here = lanes_of(lanes, v);
     let end = places[v + 1] as usize;
-    let mut i = places[v] as usize;
+    let first = places[v] as usize;
+    let mut i = next_falling(starts, weights, index, here, first, end, lanes);
     while i < end {
         let e = index[i] as usize;
         let start = starts[e] as usize;
         let by = along(here, weights[e]);
-        lower_in_turn(start, by, lanes, turns);
-        i += 1;
+        lower_in_turn(waits, start, by, lanes, turns);
+        i = next_falling(starts, weights, index, here, i + 1, end, lanes);
     }
 }

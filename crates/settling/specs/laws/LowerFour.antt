@@ -93,11 +93,3 @@ lowered-at {u} {by} {old} {new} {before} {after} on was is written =
 
     put : (j : ℕ) → j < 4 → putFour (λ i. i) x j (cellIn before 4 u j) ≡ x j
     put = below-four (λ j. putFour (λ i. i) x j (cellIn before 4 u j) ≡ x j) refl refl refl refl
-
--- nothing falls
-pub lowered-not : {u : ℕ} {by : Four} {lanes : List ℕ} → fallsFour (fourOf lanes u) by ≡ false → LoweredAt u by lanes lanes
-lowered-not {u} {by} {lanes} none = record {
-  same-length = refl;
-  here = λ j l. omega (arith, none-falls (fourOf lanes u) by none j l, cell-nth lanes u j l);
-  others = λ v j l ne. refl;
-}

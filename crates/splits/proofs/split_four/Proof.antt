@@ -1,8 +1,10 @@
 -- `splits::split_four` meets its contract. The loop's invariant: the sets at the positions so far are split.
 -- Assumes nothing.
-use Prim.Native.Nat.{_-_, _≤_}
+use Prim.Native.Nat.{_-_, _≤_, _<_}
 use mathlib.Core.Path.{refl}
 use native.Mathlib.Omega.{arith}
+use lib.ListN.{length}
+use denote.Ref.{now}
 use borrow.Author.Needs.{needs}
 use Rattle.order_ranges.specs.laws.Ranges.{entryOf, not-empty}
 use Rattle.lanes.specs.laws.Four.{nthNumber}
@@ -29,11 +31,20 @@ shared-slice-read-w c = omega (arith, c .before .loop-test .taken, c .before .be
 cast-w : tie.Need-cast-w Inv-loop μ-loop
 cast-w c = omega (arith, c .shared-slice-known2 .given (c .before .before .loop .position))
 
-best-splits-requires : tie.Need-best-splits-requires Inv-loop μ-loop
-best-splits-requires c κs = (still-rows (c .before .before .before .before .before .before .before .pre .3) (c .before .before .before .before .loop .inv .2), not-empty _ _ _ (c .before .before .before .before .before .before .before .pre .0) (c .before .before .before .before .loop .position) (omega (arith, c .before .before .before .before .loop .inv .0, c .before .before .before .before .before .before .before .pre .2)) (omega (arith, c .before .before .before .loop-test .taken, c .before .before .before .before .before .before .before .pre .1 .bound)), c .before .before .before .before .before .before .before .pre .0 .below (c .before .before .before .before .loop .position) (omega (arith, c .before .before .before .loop-test .taken, c .before .before .before .before .before .before .before .pre .1 .bound)))
+best-at-requires : tie.Need-best-at-requires Inv-loop μ-loop
+best-at-requires c κs =
+    let start = c .before .before .before .before .before .before .before in
+    let at = c .before .before .before .before .loop in
+    let on : at .position < length (now (start .args .sets)) = omega (arith, c .before .before .before .loop-test .taken, start .pre .1 .bound) in
+    let later : 0 < at .position = omega (arith, at .inv .0, start .pre .2) in
+    (still-rows (start .pre .3) (at .inv .2), not-empty _ _ _ (start .pre .0) (at .position) later on, start .pre .0 .below (at .position) on)
 
 write-rows-requires : tie.Need-write-rows-requires Inv-loop μ-loop
-write-rows-requires c κs = rows-fit (still-rows (c .before .before .before .before .before .before .before .before .pre .3) (c .before .before .before .before .before .loop .inv .2)) (c .before .before .before .before .before .before .before .before .pre .0 .below (c .before .before .before .before .before .loop .position) (omega (arith, c .before .before .before .before .loop-test .taken, c .before .before .before .before .before .before .before .before .pre .1 .bound)))
+write-rows-requires c κs =
+    let start = c .before .before .before .before .before .before .before .before in
+    let at = c .before .before .before .before .before .loop in
+    rows-fit (still-rows (start .pre .3) (at .inv .2))
+    (start .pre .0 .below (at .position) (omega (arith, c .before .before .before .before .loop-test .taken, start .pre .1 .bound)))
 
 add-position : tie.Need-add-position Inv-loop μ-loop
 add-position c = search needs
@@ -42,7 +53,11 @@ loop-less : tie.Need-loop-less Inv-loop μ-loop
 loop-less c = search needs
 
 loop-again : tie.Need-loop-again Inv-loop μ-loop
-loop-again c = (omega (arith, c .before .before .before .before .before .before .before .before .loop .inv .0), omega (arith, c .before .before .before .before .before .before .before .loop-test .taken), four-next (c .before .before .before .before .before .before .before .before .before .before .before .pre .0) (c .before .before .before .before .before .before .before .before .before .before .before .pre .1) (c .before .before .before .before .before .before .before .before .loop .inv .0) (c .before .before .before .before .before .before .before .loop-test .taken) (c .before .before .before .before .before .before .before .before .before .before .before .pre .3) (c .before .before .before .before .before .before .before .before .loop .inv .2) refl (c .before .before .before .best-splits .ensures) (c .before .before .write-rows .ensures))
+loop-again c =
+    let asked = c .before .before .before .before .before .before .before .before .before .before .before .pre in
+    let turn = c .before .before .before .before .before .before .before in
+    let inv = turn .before .loop .inv in
+    (omega (arith, inv .0), omega (arith, turn .loop-test .taken), four-next (asked .0) (asked .1) (inv .0) (turn .loop-test .taken) (asked .3) (inv .2) refl (c .before .before .before .best-at .ensures) (c .before .before .write-rows .ensures))
 
 same-length : tie.Need-same-length Inv-loop μ-loop
 same-length c = c .before .loop .inv .2 .same-length
@@ -60,7 +75,7 @@ split-four-spec =
     mul-w
     shared-slice-read-w
     cast-w
-    best-splits-requires
+    best-at-requires
     write-rows-requires
     add-position
     loop-less

@@ -9,11 +9,11 @@ use native.Mathlib.Omega.{arith}
 use native.Mathlib.Decide.{ℕ-discrete, decLt}
 use lib.Bits.{bitAnd, and-self, and-le-l}
 use Rattle.subset.specs.Sets.{Part}
+use Rattle.subset.specs.laws.Parts.{part-le}
 use Rattle.subset.specs.laws.Falling.{common-part, next-part}
-use Rattle.cost_table.specs.Cells.{cellIn}
 use Rattle.lanes.specs.declared.Four.{Four}
 use Rattle.lanes.specs.laws.Four.{nth, lessFour, less-nth}
-use Rattle.splits.specs.laws.FourRows.{sumFour, sum-nth, rowsAt, rows-nth}
+use Rattle.splits.specs.laws.FourRows.{sumFour, sum-nth, rowsAt, rows-nth, costsIn, cellsAt, AreRows}
 
 -- w is split into y and the rest at a cost of r
 pub record SplitAt (f : ℕ → ℕ) (w r : ℕ) : Type 0 where
@@ -119,38 +119,46 @@ module _ (f : ℕ → ℕ) (w : ℕ) where
 
 -- ---- at four nodes
 
--- the least costs of w at the nodes r 0 to r 3
-pub record BestSplits (cells : List ℕ) (size : ℕ) (r : ℕ → ℕ) (w : ℕ) (best : Four) : Type 0 where
-  pub each : (j : ℕ) → j < 4 → BestSplit (cellIn cells size (r j)) w (nth best j)
+-- the least costs of w at four nodes, where the set y costs f j y at node j
+pub record BestSplits (f : ℕ → ℕ → ℕ) (w : ℕ) (best : Four) : Type 0 where
+  pub each : (j : ℕ) → j < 4 → BestSplit (f j) w (nth best j)
 
 -- the splits by the parts above y have been tried at each of them
-pub record FourTried (cells : List ℕ) (size : ℕ) (r : ℕ → ℕ) (w y : ℕ) (best : Four) : Type 0 where
+pub record FourTried (f : ℕ → ℕ → ℕ) (w y : ℕ) (best : Four) : Type 0 where
   pub below : y < w
-  pub each : (j : ℕ) → j < 4 → Tried (cellIn cells size (r j)) w y (nth best j)
+  pub each : (j : ℕ) → j < 4 → Tried (f j) w y (nth best j)
 
-module _ {cells : List ℕ} {size : ℕ} {r : ℕ → ℕ} {w : ℕ} where
-  pub four-tried-none : {best : Four} → 0 < w → best ≡ rowsAt cells size r w → FourTried cells size r w (bitAnd (w - 1) w) best
+module _ {f : ℕ → ℕ → ℕ} {w : ℕ} where
+  pub four-tried-none : {best : Four} → 0 < w → best ≡ rowsAt f w → FourTried f w (bitAnd (w - 1) w) best
   four-tried-none pos is = record {
     below = let lower = and-le-l (w - 1) w in omega arith;
     each = λ j s.
-        subst (Tried (cellIn cells size (r j)) w (bitAnd (w - 1) w)) (sym (ap (λ (f : Four). nth f j) is ∙ rows-nth cells size r w j s))
-        (tried-none (cellIn cells size (r j)) w pos);
+        subst (Tried (f j) w (bitAnd (w - 1) w)) (sym (ap (λ (q : Four). nth q j) is ∙ rows-nth f w j s)) (tried-none (f j) w pos);
   }
 
-  pub four-tried-next : {y : ℕ} {best one other sums best' : Four} → w < y + y → one ≡ rowsAt cells size r y → other ≡ rowsAt cells size r (w - y)
-      → sums ≡ sumFour one other → best' ≡ lessFour sums best → FourTried cells size r w y best → FourTried cells size r w (bitAnd (y - 1) w) best'
+  pub four-tried-next : {y : ℕ} {best one other sums best' : Four} → w < y + y → one ≡ rowsAt f y → other ≡ rowsAt f (w - y)
+      → sums ≡ sumFour one other → best' ≡ lessFour sums best → FourTried f w y best → FourTried f w (bitAnd (y - 1) w) best'
   four-tried-next {y} {best} {one} {other} {sums} {best'} d is-one is-other is-sum is-best T = record {
     below = let lower = and-le-l (y - 1) w in omega (arith, T .below);
-    each = λ j s. tried-least (cellIn cells size (r j)) w y (nth best j) (nth best' j) d (value j s) (T .each j s);
+    each = λ j s. tried-least (f j) w y (nth best j) (nth best' j) d (value j s) (T .each j s);
   }
     where
-      value : (j : ℕ) → j < 4 → nth best' j ≡ min (cellIn cells size (r j) y + cellIn cells size (r j) (w - y)) (nth best j)
+      value : (j : ℕ) → j < 4 → nth best' j ≡ min (f j y + f j (w - y)) (nth best j)
       value j s =
-          ap (λ (f : Four). nth f j) is-best ∙ less-nth sums best j s
+          ap (λ (q : Four). nth q j) is-best ∙ less-nth sums best j s
           ∙ ap (λ (x : ℕ). min x (nth best j))
-          (ap (λ (f : Four). nth f j) is-sum ∙ sum-nth one other j s
-          ∙ ap₂ _+_ (ap (λ (f : Four). nth f j) is-one ∙ rows-nth cells size r y j s)
-          (ap (λ (f : Four). nth f j) is-other ∙ rows-nth cells size r (w - y) j s))
+          (ap (λ (q : Four). nth q j) is-sum ∙ sum-nth one other j s
+          ∙ ap₂ _+_ (ap (λ (q : Four). nth q j) is-one ∙ rows-nth f y j s) (ap (λ (q : Four). nth q j) is-other ∙ rows-nth f (w - y) j s))
 
-  pub four-tried-all : {y : ℕ} {best : Four} → y + y ≤ w → FourTried cells size r w y best → BestSplits cells size r w best
-  four-tried-all {y} {best} d T = record { each = λ j s. tried-all (cellIn cells size (r j)) w y (nth best j) d (T .each j s) }
+  pub four-tried-all : {y : ℕ} {best : Four} → y + y ≤ w → FourTried f w y best → BestSplits f w best
+  four-tried-all {y} {best} d T = record { each = λ j s. tried-all (f j) w y (nth best j) d (T .each j s) }
+
+-- the least costs in the rows of four nodes are those in the table
+pub best-in-table : {cells : List ℕ} {size w : ℕ} {r : ℕ → ℕ} {list : ℕ → List ℕ} {best : Four} → w < size → AreRows cells size r list
+    → BestSplits (costsIn list) w best → BestSplits (cellsAt cells size r) w best
+best-in-table {cells} {size} {w} {r} {list} {best} small A B = record {
+  each = λ j s.
+      let same = A .each j s .same in
+      best-split-same (costsIn list j) (cellsAt cells size r j) w (nth best j) (nth best j) (same w small)
+      (λ y p ny ne. same y (omega (arith, part-le y w p))) (λ y p ny ne. same (w - y) (omega arith)) refl (B .each j s);
+}

@@ -19,7 +19,7 @@ use Rattle.lanes.specs.laws.Four.{nth, nthNumber, fourFrom, from-nth}
 use Rattle.lanes.specs.laws.WriteFour.{LaneOf, NoLane, lane-or-none, writeRows, four-length, four-low, rows-set, rows-others}
 use Rattle.working_none.specs.laws.Low.{entry, AllLow}
 use Rattle.splits.specs.laws.BestSplit.{BestSplit, best-split-same, BestSplits}
-use Rattle.splits.specs.laws.FourRows.{Rows}
+use Rattle.splits.specs.laws.FourRows.{cellsAt, Rows}
 
 -- ---- one node
 
@@ -85,7 +85,7 @@ module _ {at : ℕ → ℕ} {first size : ℕ} {r : ℕ → ℕ} {before : List 
   }
 
   pub four-next : {m last p w : ℕ} {best : Four} {mid after : List ℕ} → Ordered at m size → OneSize at m first last → first ≤ p → p < last → Rows before size r
-      → FourSplit at first p size r before mid → w ≡ at p → BestSplits mid size r w best
+      → FourSplit at first p size r before mid → w ≡ at p → BestSplits (cellsAt mid size r) w best
       → after ≡ writeRows size r w (nth best) mid → FourSplit at first (p + 1) size r before after
   four-next {m} {last} {p} {w} {best} {mid} {after} O R l b B S is least new = record {
     same-length = ap length new ∙ four-length (λ j. r j * size + w) x mid ∙ S .same-length;

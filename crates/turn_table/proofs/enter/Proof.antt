@@ -6,9 +6,6 @@ use borrow.Author.Needs.{needs}
 use Rattle.turn_table.proofs.enter.Statement.{statement}
 use Rattle.turn_table.proofs.enter.Tie as tie
 
-returns : tie.Need-returns
-returns c = search needs
-
 mul-turn : tie.Need-mul-turn
 mul-turn c = search needs
 
@@ -37,7 +34,7 @@ mul-sooner-2 : tie.Need-mul-sooner-2
 mul-sooner-2 c = search needs
 
 slice-read-sooner-2 : tie.Need-slice-read-sooner-2
-slice-read-sooner-2 c = simp length-set (omega (arith, c .before .before .before .before .before .pre .0, c .before .before .before .before .before .pre .1))
+slice-read-sooner-2 c = simp length-set (omega (arith, c .before .before .before .before .pre .0, c .before .before .before .before .pre .1))
 
 sooner-requires-2 : tie.Need-sooner-requires-2
 sooner-requires-2 c κs = search needs
@@ -46,7 +43,7 @@ mul-turns-2 : tie.Need-mul-turns-2
 mul-turns-2 c = search needs
 
 slice-write-turns-2 : tie.Need-slice-write-turns-2
-slice-write-turns-2 c = simp length-set (omega (arith, c .before .before .before .before .before .before .pre .0, c .before .before .before .before .before .before .pre .1))
+slice-write-turns-2 c = simp length-set (omega (arith, c .before .before .before .before .before .pre .0, c .before .before .before .before .before .pre .1))
 
 add-large : tie.Need-add-large
 add-large c = search needs
@@ -55,7 +52,7 @@ mul-sooner-3 : tie.Need-mul-sooner-3
 mul-sooner-3 c = search needs
 
 slice-read-sooner-3 : tie.Need-slice-read-sooner-3
-slice-read-sooner-3 c = simp length-set (omega (arith, c .before .before .before .before .before .before .before .pre .0, c .before .before .before .before .before .before .before .pre .1))
+slice-read-sooner-3 c = simp length-set (omega (arith, c .before .before .before .before .before .before .pre .0, c .before .before .before .before .before .before .pre .1))
 
 sooner-requires-3 : tie.Need-sooner-requires-3
 sooner-requires-3 c κs = search needs
@@ -64,19 +61,18 @@ mul-turns-3 : tie.Need-mul-turns-3
 mul-turns-3 c = search needs
 
 slice-write-turns-3 : tie.Need-slice-write-turns-3
-slice-write-turns-3 c = simp length-set (omega (arith, c .before .before .before .before .before .before .before .before .pre .0, c .before .before .before .before .before .before .before .before .pre .1))
+slice-write-turns-3 c = simp length-set (omega (arith, c .before .before .before .before .before .before .before .pre .0, c .before .before .before .before .before .before .before .pre .1))
 
 same-length : tie.Need-same-length
 same-length c = search needs
 
-returns-2 : tie.Need-returns-2
-returns-2 c = search needs
+returns : tie.Need-returns
+returns c = search needs
 
 pub enter-spec : {M : Type 1} → statement M
 enter-spec =
     tie.close
     (tie.spec
-    returns
     mul-turn
     add-turn
     mul-sooner
@@ -97,4 +93,4 @@ enter-spec =
     mul-turns-3
     slice-write-turns-3
     same-length
-    returns-2)
+    returns)

@@ -10,10 +10,10 @@ use Rattle.turn_table.proofs.enter_all.Statement.{statement}
 use Rattle.turn_table.proofs.enter_all.Tie as tie
 
 abbrev Inv-loop : tie.InvT-loop
-Inv-loop lanes n turns₀ v₀ turns v = length turns ≡ turnEntries
+Inv-loop waits lanes n turns₀ v₀ turns v = length turns ≡ turnEntries
 
 abbrev μ-loop : tie.MeasureT-loop
-μ-loop lanes n turns₀ v₀ turns v = n - v
+μ-loop waits lanes n turns₀ v₀ turns v = n - v
 
 loop-holds : tie.Need-loop-holds Inv-loop μ-loop
 loop-holds c = c .before .before .pre .0
@@ -21,11 +21,8 @@ loop-holds c = c .before .before .pre .0
 lanes-of-requires : tie.Need-lanes-of-requires Inv-loop μ-loop
 lanes-of-requires c κs = omega (arith, c .loop-test .taken, c .before .before .before .before .pre .2)
 
-least-of-requires : tie.Need-least-of-requires Inv-loop μ-loop
-least-of-requires c κs = search needs
-
-enter-requires : tie.Need-enter-requires Inv-loop μ-loop
-enter-requires c κs = (c .before .before .before .before .loop .inv, omega (arith, c .before .before .before .loop-test .taken, c .before .before .before .before .before .before .before .pre .1))
+enter-site-requires : tie.Need-enter-site-requires Inv-loop μ-loop
+enter-site-requires c κs = (c .before .before .before .loop .inv, omega (arith, c .before .before .loop-test .taken, c .before .before .before .before .before .before .pre .1))
 
 add-v : tie.Need-add-v Inv-loop μ-loop
 add-v c = search needs
@@ -34,7 +31,7 @@ loop-less : tie.Need-loop-less Inv-loop μ-loop
 loop-less c = search needs
 
 loop-again : tie.Need-loop-again Inv-loop μ-loop
-loop-again c = c .before .before .enter .kept .1 .1 .0 ∙ c .before .before .before .before .before .before .before .loop .inv
+loop-again c = c .before .before .enter-site .kept .1 .1 .1 .0 ∙ c .before .before .before .before .before .before .loop .inv
 
 same-length : tie.Need-same-length Inv-loop μ-loop
 same-length c = omega (arith, c .before .loop .inv, c .before .before .before .before .pre .0)
@@ -50,8 +47,7 @@ enter-all-spec =
     μ-loop
     loop-holds
     lanes-of-requires
-    least-of-requires
-    enter-requires
+    enter-site-requires
     add-v
     loop-less
     loop-again

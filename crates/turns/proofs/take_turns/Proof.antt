@@ -10,34 +10,37 @@ use Rattle.turns.proofs.take_turns.Statement.{statement}
 use Rattle.turns.proofs.take_turns.Tie as tie
 
 abbrev Inv-loop : tie.InvT-loop
-Inv-loop starts weights index places n lanes₀ turns₀ left₀ lanes turns left = (length turns ≡ turnEntries) × LoweredByIndex n starts weights index places lanes₀ lanes
+Inv-loop starts weights index places n waits lanes₀ turns₀ left₀ lanes turns left = (length turns ≡ turnEntries) × LoweredByIndex n starts weights index places lanes₀ lanes
 
 abbrev μ-loop : tie.MeasureT-loop
-μ-loop starts weights index places n lanes₀ turns₀ left₀ lanes turns left = left
+μ-loop starts weights index places n waits lanes₀ turns₀ left₀ lanes turns left = left
 
-mul-left : tie.Need-mul-left Inv-loop μ-loop
-mul-left c = omega (arith, c .before .before .before .before .before .before .pre .1 .by-end .few)
+enter-all-requires : tie.Need-enter-all-requires Inv-loop μ-loop
+enter-all-requires c κs = (c .before .before .before .before .before .before .before .before .pre .0, c .before .before .before .before .before .before .before .before .pre .1 .by-end .few, c .before .before .before .before .before .before .before .before .pre .1 .by-end .wide)
+
+most-turns-requires : tie.Need-most-turns-requires Inv-loop μ-loop
+most-turns-requires c κs = c .before .before .before .before .before .before .before .before .before .before .before .pre .1 .by-end .few
 
 loop-holds : tie.Need-loop-holds Inv-loop μ-loop
-loop-holds c = (c .before .before .before .before .before .before .pre .0, index-none)
+loop-holds c = (c .before .before .before .enter-all .kept .1 .1 .1 .0 ∙ c .before .before .before .before .before .before .before .before .before .before .before .before .pre .0, index-none)
 
 next-site-requires : tie.Need-next-site-requires Inv-loop μ-loop
 next-site-requires c κs = c .before .before .loop .inv .0
 
 same-length : tie.Need-same-length Inv-loop μ-loop
-same-length c = index-length (c .before .before .before .before .loop .inv .1) (c .before .before .before .before .before .before .before .before .before .before .before .pre .1)
+same-length c = index-length (c .before .before .before .before .loop .inv .1) (c .before .before .before .before .before .before .before .before .before .before .before .before .before .before .before .before .before .pre .1)
 
 same-length-2 : tie.Need-same-length-2 Inv-loop μ-loop
-same-length-2 c = omega (arith, c .before .before .before .before .loop .inv .0, c .before .before .before .before .before .before .before .before .before .before .before .pre .0)
+same-length-2 c = omega (arith, c .before .before .before .before .loop .inv .0, c .before .before .before .before .before .before .before .before .before .before .before .before .before .before .before .before .before .pre .0)
 
 returns : tie.Need-returns Inv-loop μ-loop
 returns c = c .before .before .before .before .loop .inv .1
 
 leave-requires : tie.Need-leave-requires Inv-loop μ-loop
-leave-requires c κs = (c .before .before .before .before .before .loop .inv .0, omega (arith, c .before .if1 .left, c .before .before .before .before .before .before .before .before .before .before .before .before .pre .1 .by-end .few))
+leave-requires c κs = (c .before .before .before .before .before .loop .inv .0, omega (arith, c .before .if1 .left, c .before .before .before .before .before .before .before .before .before .before .before .before .before .before .before .before .before .before .pre .1 .by-end .few))
 
 visit-requires : tie.Need-visit-requires Inv-loop μ-loop
-visit-requires c κs = (c .before .before .before .before .leave .kept .1 .0 ∙ c .before .before .before .before .before .before .before .before .before .before .loop .inv .0, omega (arith, c .before .before .before .before .before .before .if1 .left), still-some (c .before .before .before .before .before .before .before .before .before .before .loop .inv .1) (c .before .before .before .before .before .before .before .before .before .before .before .before .before .before .before .before .before .pre .1))
+visit-requires c κs = (c .before .before .before .before .leave .kept .1 .0 ∙ c .before .before .before .before .before .before .before .before .before .before .loop .inv .0, omega (arith, c .before .before .before .before .before .before .if1 .left), still-some (c .before .before .before .before .before .before .before .before .before .before .loop .inv .1) (c .before .before .before .before .before .before .before .before .before .before .before .before .before .before .before .before .before .before .before .before .before .before .before .pre .1))
 
 sub-left : tie.Need-sub-left Inv-loop μ-loop
 sub-left c = search needs
@@ -46,13 +49,13 @@ loop-less : tie.Need-loop-less Inv-loop μ-loop
 loop-less c = search needs
 
 loop-again : tie.Need-loop-again Inv-loop μ-loop
-loop-again c = (c .before .before .before .before .visit .kept .1 .1 .1 .1 .1 .1 .1 .0 ∙ c .before .before .before .before .before .before .before .before .before .leave .kept .1 .0 ∙ c .before .before .before .before .before .before .before .before .before .before .before .before .before .before .before .loop .inv .0, index-more (c .before .before .before .before .before .before .before .before .before .before .before .before .before .before .before .loop .inv .1) (c .before .before .before .before .visit .ensures))
+loop-again c = (c .before .before .before .before .visit .kept .1 .1 .1 .1 .1 .1 .1 .1 .0 ∙ c .before .before .before .before .before .before .before .before .before .leave .kept .1 .0 ∙ c .before .before .before .before .before .before .before .before .before .before .before .before .before .before .before .loop .inv .0, index-more (c .before .before .before .before .before .before .before .before .before .before .before .before .before .before .before .loop .inv .1) (c .before .before .before .before .visit .ensures))
 
 same-length-3 : tie.Need-same-length-3 Inv-loop μ-loop
-same-length-3 c = index-length (c .before .loop .inv .1) (c .before .before .before .before .before .before .before .before .pre .1)
+same-length-3 c = index-length (c .before .loop .inv .1) (c .before .before .before .before .before .before .before .before .before .before .before .before .before .before .pre .1)
 
 same-length-4 : tie.Need-same-length-4 Inv-loop μ-loop
-same-length-4 c = omega (arith, c .before .loop .inv .0, c .before .before .before .before .before .before .before .before .pre .0)
+same-length-4 c = omega (arith, c .before .loop .inv .0, c .before .before .before .before .before .before .before .before .before .before .before .before .before .before .pre .0)
 
 returns-2 : tie.Need-returns-2 Inv-loop μ-loop
 returns-2 c = c .before .loop .inv .1
@@ -63,7 +66,8 @@ take-turns-spec =
     (tie.spec
     Inv-loop
     μ-loop
-    mul-left
+    enter-all-requires
+    most-turns-requires
     loop-holds
     next-site-requires
     same-length

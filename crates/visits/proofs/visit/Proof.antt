@@ -7,15 +7,15 @@ use lib.ListN.{length}
 use borrow.Author.Needs.{needs}
 use Rattle.working_none.specs.laws.Low.{entry}
 use Rattle.turn_table.specs.laws.Entries.{turnEntries}
-use Rattle.visits.specs.laws.ByIndex.{LoweredByIndex, index-none, index-length, at-node, here-low, in-group, group-arc}
+use Rattle.visits.specs.laws.ByIndex.{LoweredByIndex, index-none, index-length, at-node, here-low, in-group, group-from, group-arc}
 use Rattle.visits.proofs.visit.Statement.{statement}
 use Rattle.visits.proofs.visit.Tie as tie
 
 abbrev Inv-loop : tie.InvT-loop
-Inv-loop starts weights index places n v lanes₀ turns₀ here end i₀ lanes turns i = (entry places v ≤ i) × (length turns ≡ turnEntries) × LoweredByIndex n starts weights index places lanes₀ lanes
+Inv-loop starts weights index places n waits v lanes₀ turns₀ here end first i₀ lanes turns i = (entry places v ≤ i) × (length turns ≡ turnEntries) × LoweredByIndex n starts weights index places lanes₀ lanes
 
 abbrev μ-loop : tie.MeasureT-loop
-μ-loop starts weights index places n v lanes₀ turns₀ here end i₀ lanes turns i = end - i
+μ-loop starts weights index places n waits v lanes₀ turns₀ here end first i₀ lanes turns i = end - i
 
 lanes-of-requires : tie.Need-lanes-of-requires Inv-loop μ-loop
 lanes-of-requires c κs = at-node (c .before .before .before .before .before .before .before .pre .2) (c .before .before .before .before .before .before .before .pre .1) .fits
@@ -32,62 +32,68 @@ shared-slice-read-end c = at-node (c .before .before .before .before .before .be
 cast-end : tie.Need-cast-end Inv-loop μ-loop
 cast-end c = omega (arith, c .shared-slice-known5 .given (c .before .before .before .before .before .before .before .before .before .args .v + 1))
 
-mul-i : tie.Need-mul-i Inv-loop μ-loop
-mul-i c = omega (arith, at-node (c .before .before .before .before .before .before .before .before .before .pre .2) (c .before .before .before .before .before .before .before .before .before .pre .1))
+mul-first : tie.Need-mul-first Inv-loop μ-loop
+mul-first c = omega (arith, at-node (c .before .before .before .before .before .before .before .before .before .pre .2) (c .before .before .before .before .before .before .before .before .before .pre .1))
 
-shared-slice-read-i : tie.Need-shared-slice-read-i Inv-loop μ-loop
-shared-slice-read-i c = omega (arith, at-node (c .before .before .before .before .before .before .before .before .before .before .pre .2) (c .before .before .before .before .before .before .before .before .before .before .pre .1))
+shared-slice-read-first : tie.Need-shared-slice-read-first Inv-loop μ-loop
+shared-slice-read-first c = omega (arith, at-node (c .before .before .before .before .before .before .before .before .before .before .pre .2) (c .before .before .before .before .before .before .before .before .before .before .pre .1))
 
-cast-i : tie.Need-cast-i Inv-loop μ-loop
-cast-i c = omega (arith, c .shared-slice-known6 .given (c .before .before .before .before .before .before .before .before .before .before .args .v))
+cast-first : tie.Need-cast-first Inv-loop μ-loop
+cast-first c = omega (arith, c .shared-slice-known6 .given (c .before .before .before .before .before .before .before .before .before .before .args .v))
+
+next-falling-requires : tie.Need-next-falling-requires Inv-loop μ-loop
+next-falling-requires c κs = (here-low (c .before .before .before .before .before .before .before .before .before .before .before .pre .2) (c .before .before .before .before .before .before .before .before .before .before .before .pre .1) (c .before .before .before .lanes-of .ensures), group-from (c .before .before .before .before .before .before .before .before .before .before .before .pre .2) (c .before .before .before .before .before .before .before .before .before .before .before .pre .1) index-none (omega arith))
 
 loop-holds : tie.Need-loop-holds Inv-loop μ-loop
-loop-holds c = (omega arith, c .before .before .before .before .before .before .before .before .before .before .pre .0, index-none)
+loop-holds c = (c .next-falling .ensures, c .before .before .before .before .before .before .before .before .before .before .before .before .pre .0, index-none)
 
 mul-e : tie.Need-mul-e Inv-loop μ-loop
-mul-e c = omega (arith, in-group (c .before .before .before .before .before .before .before .before .before .before .before .before .pre .2) (c .before .before .before .before .before .before .before .before .before .before .before .before .pre .1) (c .before .loop .inv .0) (c .loop-test .taken) (c .before .loop .inv .2))
+mul-e c = omega (arith, in-group (c .before .before .before .before .before .before .before .before .before .before .before .before .before .before .pre .2) (c .before .before .before .before .before .before .before .before .before .before .before .before .before .before .pre .1) (c .before .loop .inv .2) (c .before .loop .inv .0) (c .loop-test .taken))
 
 shared-slice-read-e : tie.Need-shared-slice-read-e Inv-loop μ-loop
-shared-slice-read-e c = in-group (c .before .before .before .before .before .before .before .before .before .before .before .before .before .pre .2) (c .before .before .before .before .before .before .before .before .before .before .before .before .before .pre .1) (c .before .before .loop .inv .0) (c .before .loop-test .taken) (c .before .before .loop .inv .2) .on
+shared-slice-read-e c = in-group (c .before .before .before .before .before .before .before .before .before .before .before .before .before .before .before .pre .2) (c .before .before .before .before .before .before .before .before .before .before .before .before .before .before .before .pre .1) (c .before .before .loop .inv .2) (c .before .before .loop .inv .0) (c .before .loop-test .taken) .on
 
 cast-e : tie.Need-cast-e Inv-loop μ-loop
 cast-e c = omega (arith, c .shared-slice-known7 .given (c .before .before .loop .i))
 
 mul-start : tie.Need-mul-start Inv-loop μ-loop
-mul-start c = omega (arith, in-group (c .before .before .before .before .before .before .before .before .before .before .before .before .before .pre .2) (c .before .before .before .before .before .before .before .before .before .before .before .before .before .pre .1) (c .before .before .loop .inv .0) (c .before .loop-test .taken) (c .before .before .loop .inv .2))
+mul-start c = omega (arith, in-group (c .before .before .before .before .before .before .before .before .before .before .before .before .before .before .before .pre .2) (c .before .before .before .before .before .before .before .before .before .before .before .before .before .before .before .pre .1) (c .before .before .loop .inv .2) (c .before .before .loop .inv .0) (c .before .loop-test .taken))
 
 shared-slice-read-start : tie.Need-shared-slice-read-start Inv-loop μ-loop
-shared-slice-read-start c = in-group (c .before .before .before .before .before .before .before .before .before .before .before .before .before .before .pre .2) (c .before .before .before .before .before .before .before .before .before .before .before .before .before .before .pre .1) (c .before .before .before .loop .inv .0) (c .before .before .loop-test .taken) (c .before .before .before .loop .inv .2) .starts-on
+shared-slice-read-start c = in-group (c .before .before .before .before .before .before .before .before .before .before .before .before .before .before .before .before .pre .2) (c .before .before .before .before .before .before .before .before .before .before .before .before .before .before .before .before .pre .1) (c .before .before .before .loop .inv .2) (c .before .before .before .loop .inv .0) (c .before .before .loop-test .taken) .starts-on
 
 cast-start : tie.Need-cast-start Inv-loop μ-loop
-cast-start c = omega (arith, in-group (c .before .before .before .before .before .before .before .before .before .before .before .before .before .before .pre .2) (c .before .before .before .before .before .before .before .before .before .before .before .before .before .before .pre .1) (c .before .before .before .loop .inv .0) (c .before .before .loop-test .taken) (c .before .before .before .loop .inv .2))
+cast-start c = omega (arith, in-group (c .before .before .before .before .before .before .before .before .before .before .before .before .before .before .before .before .pre .2) (c .before .before .before .before .before .before .before .before .before .before .before .before .before .before .before .before .pre .1) (c .before .before .before .loop .inv .2) (c .before .before .before .loop .inv .0) (c .before .before .loop-test .taken))
 
 mul-along : tie.Need-mul-along Inv-loop μ-loop
-mul-along c = omega (arith, in-group (c .before .before .before .before .before .before .before .before .before .before .before .before .before .before .pre .2) (c .before .before .before .before .before .before .before .before .before .before .before .before .before .before .pre .1) (c .before .before .before .loop .inv .0) (c .before .before .loop-test .taken) (c .before .before .before .loop .inv .2))
+mul-along c = omega (arith, in-group (c .before .before .before .before .before .before .before .before .before .before .before .before .before .before .before .before .pre .2) (c .before .before .before .before .before .before .before .before .before .before .before .before .before .before .before .before .pre .1) (c .before .before .before .loop .inv .2) (c .before .before .before .loop .inv .0) (c .before .before .loop-test .taken))
 
 shared-slice-read-along : tie.Need-shared-slice-read-along Inv-loop μ-loop
-shared-slice-read-along c = in-group (c .before .before .before .before .before .before .before .before .before .before .before .before .before .before .before .pre .2) (c .before .before .before .before .before .before .before .before .before .before .before .before .before .before .before .pre .1) (c .before .before .before .before .loop .inv .0) (c .before .before .before .loop-test .taken) (c .before .before .before .before .loop .inv .2) .weights-on
+shared-slice-read-along c = in-group (c .before .before .before .before .before .before .before .before .before .before .before .before .before .before .before .before .before .pre .2) (c .before .before .before .before .before .before .before .before .before .before .before .before .before .before .before .before .before .pre .1) (c .before .before .before .before .loop .inv .2) (c .before .before .before .before .loop .inv .0) (c .before .before .before .loop-test .taken) .weights-on
 
 along-requires : tie.Need-along-requires Inv-loop μ-loop
-along-requires c κs = (here-low (c .before .before .before .before .before .before .before .before .before .before .before .before .before .before .before .pre .2) (c .before .before .before .before .before .before .before .before .before .before .before .before .before .before .before .pre .1) (c .before .before .before .before .before .before .before .lanes-of .ensures), in-group (c .before .before .before .before .before .before .before .before .before .before .before .before .before .before .before .pre .2) (c .before .before .before .before .before .before .before .before .before .before .before .before .before .before .before .pre .1) (c .before .before .before .before .loop .inv .0) (c .before .before .before .loop-test .taken) (c .before .before .before .before .loop .inv .2) .weight-low)
+along-requires c κs = (here-low (c .before .before .before .before .before .before .before .before .before .before .before .before .before .before .before .before .before .pre .2) (c .before .before .before .before .before .before .before .before .before .before .before .before .before .before .before .before .before .pre .1) (c .before .before .before .before .before .before .before .before .before .lanes-of .ensures), in-group (c .before .before .before .before .before .before .before .before .before .before .before .before .before .before .before .before .before .pre .2) (c .before .before .before .before .before .before .before .before .before .before .before .before .before .before .before .before .before .pre .1) (c .before .before .before .before .loop .inv .2) (c .before .before .before .before .loop .inv .0) (c .before .before .before .loop-test .taken) .weight-low)
 
 lower-in-turn-requires : tie.Need-lower-in-turn-requires Inv-loop μ-loop
-lower-in-turn-requires c κs = let g = in-group (c .before .before .before .before .before .before .before .before .before .before .before .before .before .before .before .before .before .before .pre .2) (c .before .before .before .before .before .before .before .before .before .before .before .before .before .before .before .before .before .before .pre .1) (c .before .before .before .before .before .before .before .loop .inv .0) (c .before .before .before .before .before .before .loop-test .taken) (c .before .before .before .before .before .before .before .loop .inv .2) in (c .before .before .before .before .before .before .before .loop .inv .1, omega (arith, g .start-lt, g .few), g .fits)
+lower-in-turn-requires c κs = let e = in-group (c .before .before .before .before .before .before .before .before .before .before .before .before .before .before .before .before .before .before .before .before .pre .2) (c .before .before .before .before .before .before .before .before .before .before .before .before .before .before .before .before .before .before .before .before .pre .1) (c .before .before .before .before .before .before .before .loop .inv .2) (c .before .before .before .before .before .before .before .loop .inv .0) (c .before .before .before .before .before .before .loop-test .taken) in (c .before .before .before .before .before .before .before .loop .inv .1, e .start-lt, e .fits)
 
-add-i : tie.Need-add-i Inv-loop μ-loop
-add-i c = omega (arith, c .before .before .before .before .before .before .before .before .before .before .before .loop-test .taken, c .before .before .before .before .before .before .before .before .before .before .before .before .before .before .shared-slice-known5 .given (c .before .before .before .before .before .before .before .before .before .before .before .before .before .before .before .before .before .before .before .before .before .before .before .args .v + 1))
+add-next-falling : tie.Need-add-next-falling Inv-loop μ-loop
+add-next-falling c = omega (arith, c .before .before .before .before .before .before .before .before .before .before .before .loop-test .taken, c .before .before .before .before .before .before .before .before .before .before .before .before .before .before .before .before .shared-slice-known5 .given (c .before .before .before .before .before .before .before .before .before .before .before .before .before .before .before .before .before .before .before .before .before .before .before .before .before .args .v + 1))
+
+next-falling-requires-2 : tie.Need-next-falling-requires-2 Inv-loop μ-loop
+next-falling-requires-2 c κs = (here-low (c .before .before .before .before .before .before .before .before .before .before .before .before .before .before .before .before .before .before .before .before .before .before .before .before .before .before .pre .2) (c .before .before .before .before .before .before .before .before .before .before .before .before .before .before .before .before .before .before .before .before .before .before .before .before .before .before .pre .1) (c .before .before .before .before .before .before .before .before .before .before .before .before .before .before .before .before .before .before .lanes-of .ensures), group-from (c .before .before .before .before .before .before .before .before .before .before .before .before .before .before .before .before .before .before .before .before .before .before .before .before .before .before .pre .2) (c .before .before .before .before .before .before .before .before .before .before .before .before .before .before .before .before .before .before .before .before .before .before .before .before .before .before .pre .1) (group-arc (c .before .before .before .before .before .before .before .before .before .before .before .before .before .loop .inv .2) (c .before .before .before .before .before .before .before .before .before .before .before .before .before .before .before .before .before .before .before .before .before .before .before .before .before .before .pre .1) (c .before .before .before .before .before .before .before .before .before .before .before .before .before .loop .inv .0) (c .before .before .before .before .before .before .before .before .before .before .before .before .loop-test .taken) (c .before .before .before .before .before .before .before .before .before .before .before .before .before .before .before .before .before .before .lanes-of .ensures) (c .before .before .before .before .before .before .before .before .along .ensures) (c .before .before .before .before .before .lower-in-turn .ensures)) (omega (arith, c .before .before .before .before .before .before .before .before .before .before .before .before .before .loop .inv .0)))
 
 loop-less : tie.Need-loop-less Inv-loop μ-loop
-loop-less c = search needs
+loop-less c = omega (arith, c .next-falling2 .ensures, c .before .before .before .before .before .before .before .before .before .before .before .before .before .loop-test .taken)
 
 loop-again : tie.Need-loop-again Inv-loop μ-loop
-loop-again c = (omega (arith, c .before .before .before .before .before .before .before .before .before .before .before .before .loop .inv .0), c .before .before .before .before .lower-in-turn .kept .1 .1 .1 .0 ∙ c .before .before .before .before .before .before .before .before .before .before .before .before .loop .inv .1, group-arc (c .before .before .before .before .before .before .before .before .before .before .before .before .loop .inv .2) (c .before .before .before .before .before .before .before .before .before .before .before .before .before .before .before .before .before .before .before .before .before .before .before .pre .1) (c .before .before .before .before .before .before .before .before .before .before .before .before .loop .inv .0) (c .before .before .before .before .before .before .before .before .before .before .before .loop-test .taken) (c .before .before .before .before .before .before .before .before .before .before .before .before .before .before .before .lanes-of .ensures) (c .before .before .before .before .before .before .before .along .ensures) (c .before .before .before .before .lower-in-turn .ensures))
+loop-again c = (omega (arith, c .next-falling2 .ensures, c .before .before .before .before .before .before .before .before .before .before .before .before .before .before .loop .inv .0), c .before .before .before .before .before .before .lower-in-turn .kept .1 .1 .1 .1 .0 ∙ c .before .before .before .before .before .before .before .before .before .before .before .before .before .before .loop .inv .1, group-arc (c .before .before .before .before .before .before .before .before .before .before .before .before .before .before .loop .inv .2) (c .before .before .before .before .before .before .before .before .before .before .before .before .before .before .before .before .before .before .before .before .before .before .before .before .before .before .before .pre .1) (c .before .before .before .before .before .before .before .before .before .before .before .before .before .before .loop .inv .0) (c .before .before .before .before .before .before .before .before .before .before .before .before .before .loop-test .taken) (c .before .before .before .before .before .before .before .before .before .before .before .before .before .before .before .before .before .before .before .lanes-of .ensures) (c .before .before .before .before .before .before .before .before .before .along .ensures) (c .before .before .before .before .before .before .lower-in-turn .ensures))
 
 same-length : tie.Need-same-length Inv-loop μ-loop
-same-length c = index-length (c .before .loop .inv .2) (c .before .before .before .before .before .before .before .before .before .before .before .before .pre .2)
+same-length c = index-length (c .before .loop .inv .2) (c .before .before .before .before .before .before .before .before .before .before .before .before .before .before .pre .2)
 
 same-length-2 : tie.Need-same-length-2 Inv-loop μ-loop
-same-length-2 c = omega (arith, c .before .loop .inv .1, c .before .before .before .before .before .before .before .before .before .before .before .before .pre .0)
+same-length-2 c = omega (arith, c .before .loop .inv .1, c .before .before .before .before .before .before .before .before .before .before .before .before .before .before .pre .0)
 
 returns : tie.Need-returns Inv-loop μ-loop
 returns c = c .before .loop .inv .2
@@ -103,9 +109,10 @@ visit-spec =
     mul-end
     shared-slice-read-end
     cast-end
-    mul-i
-    shared-slice-read-i
-    cast-i
+    mul-first
+    shared-slice-read-first
+    cast-first
+    next-falling-requires
     loop-holds
     mul-e
     shared-slice-read-e
@@ -117,7 +124,8 @@ visit-spec =
     shared-slice-read-along
     along-requires
     lower-in-turn-requires
-    add-i
+    add-next-falling
+    next-falling-requires-2
     loop-less
     loop-again
     same-length

@@ -66,30 +66,35 @@ module _ {n : ℕ} {starts weights byEnd places : List ℕ} where
 
 -- ---- the group of node v
 
--- what is known at entry i of the group
-pub record InGroup (n : ℕ) (starts weights byEnd lanes : List ℕ) (i : ℕ) : Type 0 where
+-- what is known of entry i of the index
+pub record InGroup (starts weights byEnd lanes : List ℕ) (i : ℕ) : Type 0 where
   pub on : i < length byEnd
   pub starts-on : entry byEnd i < length starts
   pub weights-on : entry byEnd i < length weights
-  pub start-lt : entry starts (entry byEnd i) < n
-  pub few : n ≤ maxNodes
+  pub start-lt : entry starts (entry byEnd i) < maxNodes
   pub fits : entry starts (entry byEnd i) * 4 + 4 ≤ length lanes
   pub weight-low : entry weights (entry byEnd i) ≤ maxWeight
 
-module _ {n v i : ℕ} {starts weights byEnd places before mid : List ℕ} (S : SomeArcs n starts weights byEnd places before) (on : v < n)
-    (from : entry places v ≤ i) (to : i < entry places (v + 1)) where
-  pub in-group : LoweredByIndex n starts weights byEnd places before mid → InGroup n starts weights byEnd mid i
-  in-group L =
+-- of all entries from `from` up to `end`
+pub record Entries (starts weights byEnd lanes : List ℕ) (from end : ℕ) : Type 0 where
+  pub each : (i : ℕ) → from ≤ i → i < end → InGroup starts weights byEnd lanes i
+
+module _ {n v : ℕ} {starts weights byEnd places before mid : List ℕ} (S : SomeArcs n starts weights byEnd places before) (on : v < n)
+    (L : LoweredByIndex n starts weights byEnd places before mid) where
+  pub in-group : {i : ℕ} → entry places v ≤ i → i < entry places (v + 1) → InGroup starts weights byEnd mid i
+  in-group {i} from to =
       let T = S .by-end in
       let arc = T .index .group v i on from to .0 in record {
         on = omega (arith, T .index .place-le (v + 1) (omega arith), T .index .by-end-long);
         starts-on = omega (arith, arc, T .starts-long);
         weights-on = omega (arith, arc, T .weights-long);
-        start-lt = T .start-lt (entry byEnd i) arc;
-        few = T .few;
+        start-lt = omega (arith, T .start-lt (entry byEnd i) arc, T .few);
         fits = omega (arith, T .start-lt (entry byEnd i) arc, T .wide, index-length L S);
         weight-low = T .weight-le (entry byEnd i) arc;
       }
+
+  pub group-from : {first : ℕ} → entry places v ≤ first → Entries starts weights byEnd mid first (entry places (v + 1))
+  group-from low = record { each = λ i from to. in-group (omega arith) to }
 
 -- one arc of the group, with the cells that node v had
 pub group-arc : {n v i : ℕ} {here by : Four} {starts weights byEnd places before mid after : List ℕ} → LoweredByIndex n starts weights byEnd places before mid
