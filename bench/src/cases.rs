@@ -18,7 +18,8 @@ pub fn cases() -> Vec<Case> {
     let mut cases = random_cases();
     cases.extend(grid_cases());
     cases.extend(chain_cases());
-    cases.push(plan_case("worst for turns", gated_row(12)));
+    cases.push(plan_case("row behind a gate", gated_row(12, false)));
+    cases.push(plan_case("the same, dear ways", gated_row(12, true)));
     cases.extend(reading_cases());
     cases
 }

@@ -62,10 +62,15 @@ fn a_chain_is_planned_alike() {
 /// From the last site of the row the plan leads through the whole row and the gate to the place at which every station is heard.
 #[test]
 fn a_gated_row_is_planned_alike() {
-    let sheet = gated_row(6);
-    assert_eq!(sheet.legs().len(), 8147);
-    assert_eq!(plan_and_read(&sheet), 0);
-    assert_eq!(plan_and_read(&sheet.sender(1023)), 895 + 2);
+    for (dear_ways, legs, row) in [(false, 8147, 895), (true, 8085, 881)] {
+        let sheet = gated_row(6, dear_ways);
+        assert_eq!(sheet.legs().len(), legs);
+        assert_eq!(plan_and_read(&sheet), 0);
+        assert_eq!(
+            plan_and_read(&sheet.sender(128 + row)),
+            usize::from(row) + 2
+        );
+    }
 }
 
 /// The index of legs that all end at one site, and of legs whose ends fall.

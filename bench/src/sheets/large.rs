@@ -162,20 +162,32 @@ const CHOSEN: u16 = 6;
 /// The legs from each site of the row of `gated_row`.
 const LEGS_BACK: u16 = 9;
 
+/// The price of a dear way of `gated_row`.
+const DEAR: u32 = 1_000_000;
+
 /// A row of sites behind a gate, from which legs lead to 64 places: one for each set of stations 0 to 5, at which the set is heard and so
 /// are stations 6 to 9. The way to a place has its own price, dearer with each station of the set, and two ways are dearer than one.
 ///
 /// So sets of stations that differ in stations 0 to 5 have different cheapest places, and a search that settles sites by their costs finds
 /// the gate's costs for these sets at different times, far apart. Where it settles several sets at once, the costs of the whole row fall
 /// after each of these times.
-pub fn gated_row(seed: u64) -> Sheet {
+///
+/// With dear ways, a leg leads from each place to the last site, at which every station is heard; it is dearer than two ways to places.
+/// So a place has a greater sum of costs, over several sets, than the gate and the row, and where sites have their turn by such a sum, the
+/// row does not wait for the places.
+pub fn gated_row(seed: u64, dear_ways: bool) -> Sheet {
     let mut random = Random::new(seed);
     let gate = 2 << CHOSEN;
     let mut sheet = Sheet::new(1024, 10);
     for set in 0..1 << CHOSEN {
         sheet = with_place(&mut random, sheet, gate, set);
     }
-    for site in gate + 1..sheet.sites {
+    let mut end = sheet.sites;
+    if dear_ways {
+        sheet = with_dear_ways(sheet);
+        end -= 14;
+    }
+    for site in gate + 1..end {
         for step in 1..=LEGS_BACK.min(site - gate) {
             sheet = sheet.link(site, site - step, u32::from(step));
         }
@@ -186,11 +198,18 @@ pub fn gated_row(seed: u64) -> Sheet {
 /// Adds the place of a set of stations: a site before it, to which a cheap leg leads from the gate, and the dear leg from there.
 fn with_place(random: &mut Random, sheet: Sheet, gate: u16, set: u16) -> Sheet {
     let (before, place) = (2 * set, 2 * set + 1);
-    let level = 500_000 + 60_000 * set.count_ones();
-    let price = level + random.below(60_000) as u32;
+    let level = 350_000 + 20_000 * set.count_ones();
+    let price = level + random.below(20_000) as u32;
     let sheet = sheet.link(gate, before, 1).link(before, place, price);
     let heard = (0..10).filter(|&station| station >= CHOSEN || set >> station & 1 == 1);
     heard.fold(sheet, |sheet, station| sheet.landing(station as u8, place))
+}
+
+/// Adds the dear ways, and the landings at the last site.
+fn with_dear_ways(sheet: Sheet) -> Sheet {
+    let last = sheet.sites - 1;
+    let linked = (0..1 << CHOSEN).fold(sheet, |sheet, set| sheet.link(2 * set + 1, last, DEAR));
+    (0..10).fold(linked, |sheet, station| sheet.landing(station, last))
 }
 
 /// A sheet at every limit: 1,024 sites, each a sender by its own `SR`, 10 stations heard at each of them, 8,192 legs. It has 137,223 bytes.

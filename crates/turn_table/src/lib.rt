@@ -1,4 +1,4 @@
-// The table of turns: which sites have a turn, by which cost, and which is next.
+// The table of turns: which sites have a turn, by which key, and which is next. A key is a cost, or a sum of four costs.
 use lanes::Four;
 use lanes::lanes_of;
 use lanes::lesser;
@@ -8,12 +8,12 @@ ghost use mathlib.Core.Path.{_≡_};
 ghost use Prim.Native.Nat.{_+_, _*_, _<_, _≤_, min};
 ghost use lib.ListN.{length};
 ghost use Rattle.limits.specs.Limits.{maxNodes};
-ghost use Rattle.turn_table.specs.laws.Entries.{turnEntries};
+ghost use Rattle.turn_table.specs.laws.Entries.{turnEntries, keyLimit};
 
 // A site without a turn.
 pub const NO_TURN: u64 = 18_446_744_073_709_551_615;
 
-// Where the turns of groups begin: entry v of a table of turns is 1,024 times the cost of site v plus v, or NO_TURN; entry 1,024 + i
+// Where the turns of groups begin: entry v of a table of turns is 1,024 times the key of site v plus v, or NO_TURN; entry 1,024 + i
 // is the least of the eight entries from 8 i on, so that the last sixteen are each the least of 64 sites.
 const GROUPS: usize = 1024;
 
@@ -47,11 +47,11 @@ fn soonest(turns: &[u64], i: usize) -> u64
     sooner(low, high)
 }
 
-// Site v has a turn by a cost; the least of its costs counts.
-pub fn enter(v: usize, cost: Cost, turns: &mut [u64])
-    requires { ⌜ (length (now turns) ≡ turnEntries) × (v < maxNodes) ⌝ }
+// Site v has a turn by a key; the least of its keys counts.
+pub fn enter(v: usize, key: u64, turns: &mut [u64])
+    requires { ⌜ (length (now turns) ≡ turnEntries) × (v < maxNodes) × (key < keyLimit) ⌝ }
 {
-    let turn = (cost as u64) * 1024 + (v as u64);
+    let turn = key * 1024 + (v as u64);
     turns[v] = sooner(turn, turns[v]);
     let group = GROUPS + v / 8;
     turns[group] = sooner(turn, turns[group]);
@@ -89,38 +89,32 @@ pub fn least_of(four: Four) -> Cost {
     lesser(lesser(four.a, four.b), lesser(four.c, four.d))
 }
 
-// A cost, or 0 where it is "none".
-fn finite(cost: Cost) -> Cost {
-    if cost == WORKING_NONE {
-        return 0;
+// A cost, or another one where it is "none" or more.
+fn finite_or(cost: Cost, other: Cost) -> Cost {
+    if cost < WORKING_NONE {
+        return cost;
     }
-    cost
+    other
 }
 
-// The greater of two costs.
-fn greater(x: Cost, y: Cost) -> Cost {
-    if x < y {
-        return y;
-    }
-    x
+// The sum of four costs; for one that is "none" or more, the least of them counts.
+pub fn sum_of(four: Four) -> u64
+    ensures { λ r. ⌜ r < keyLimit ⌝ }
+{
+    let least = least_of(four);
+    let low = (finite_or(four.a, least) as u64) + (finite_or(four.b, least) as u64);
+    let high = (finite_or(four.c, least) as u64) + (finite_or(four.d, least) as u64);
+    low + high
 }
 
-// The greatest of four costs but for those that are "none".
-pub fn greatest_of(four: Four) -> Cost {
-    greater(
-        greater(finite(four.a), finite(four.b)),
-        greater(finite(four.c), finite(four.d)),
-    )
-}
-
-// Site v, which has these cells, has a turn by the greatest that is finite, where there is one.
-fn enter_by_greatest(v: usize, here: Four, turns: &mut [u64])
+// Site v, which has these cells, has a turn by their sum, where one of them is finite.
+fn enter_by_sum(v: usize, here: Four, turns: &mut [u64])
     requires { ⌜ (length (now turns) ≡ turnEntries) × (v < maxNodes) ⌝ }
 {
     if least_of(here) == WORKING_NONE {
         return;
     }
-    enter(v, greatest_of(here), turns);
+    enter(v, sum_of(here), turns);
 }
 
 // Site v, which has these cells, has its turn by the least of them, where it has a turn.
@@ -130,7 +124,7 @@ fn enter_by_least(v: usize, here: Four, turns: &mut [u64])
     if turns[v] == NO_TURN {
         return;
     }
-    enter(v, least_of(here), turns);
+    enter(v, least_of(here) as u64, turns);
 }
 
 // The one where the sites wait, else the other.
@@ -138,13 +132,13 @@ fn enter_site(waits: bool, v: usize, here: Four, turns: &mut [u64])
     requires { ⌜ (length (now turns) ≡ turnEntries) × (v < maxNodes) ⌝ }
 {
     if waits {
-        enter_by_greatest(v, here, turns);
+        enter_by_sum(v, here, turns);
         return;
     }
     enter_by_least(v, here, turns);
 }
 
-// Where the sites wait, each that has a finite cell has a turn, by the greatest of them; else each that has a turn has it by the least of its cells.
+// Where the sites wait, each that has a finite cell has a turn, by the sum of its cells; else each that has a turn has it by the least of them.
 pub fn enter_all(waits: bool, lanes: &[Cost], n: usize, turns: &mut [u64])
     requires { ⌜ (length (now turns) ≡ turnEntries) × (n ≤ maxNodes) × (n * 4 ≤ length (now lanes)) ⌝ }
 {

@@ -1,4 +1,4 @@
-// A first lowering of the cells of four sets along the legs: a site whose cells fell has a turn, the site with the least cost first, and in its turn
+// A first lowering of the cells of four sets along the legs: a site whose cells fell has a turn, the least turn is taken first, and in its turn
 // the legs that end there are tried, by the index. It only makes the settling short: that no leg gives less is found there.
 use limits::Cost;
 use turn_table::ENTRIES;
@@ -52,9 +52,9 @@ fn take_turns(
     }
 }
 
-// The cells of four sets, lowered along the legs by turns. At first the sites wait: a site has its turn by the greatest of its cells, so that most sites
-// have one turn, when their cells of all four sets have fallen. Then they do not, and a site has its turn by the least cost to which a cell fell: in
-// each turn but the first of a site, a cell that fell since its last turn falls no more, so that 5 n turns are enough.
+// The cells of four sets, lowered along the legs by turns. At first the sites wait: a site has its turn by the sum of four costs, so that most sites have
+// one turn, when their cells of all four sets have fallen. Then they do not, and a site has its turn by the least cost to which a cell fell: in each
+// turn but the first of a site, a cell that fell since its last turn falls no more, so that 5 n turns are enough.
 pub fn lower_by_turns(
     starts: &[u16],
     weights: &[u32],

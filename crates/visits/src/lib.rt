@@ -1,21 +1,20 @@
 // The turn of one site: the legs that end there, by the index, lower the cells of their starts, and these have a turn.
 use lanes::Four;
 use lanes::lanes_of;
-use lanes::lesser_of;
 use limits::Cost;
 use settling::along;
 use settling::falls;
 use settling::lower;
 use turn_table::enter;
-use turn_table::greatest_of;
 use turn_table::least_of;
+use turn_table::sum_of;
 use working_none::WORKING_NONE;
 ghost use mathlib.Core.Path.{_≡_};
 ghost use Prim.Native.Nat.{_+_, _*_, _<_, _≤_};
 ghost use lib.ListN.{length};
 ghost use Rattle.limits.specs.Limits.{maxNodes};
 ghost use Rattle.settling.specs.laws.LowerFour.{LoweredAt};
-ghost use Rattle.turn_table.specs.laws.Entries.{turnEntries};
+ghost use Rattle.turn_table.specs.laws.Entries.{turnEntries, keyLimit};
 ghost use Rattle.lanes.specs.laws.Four.{FourLow};
 ghost use Rattle.visits.specs.laws.ByIndex.{SomeArcs, Entries, LoweredByIndex};
 
@@ -27,18 +26,21 @@ fn fallen(new: Cost, old: Cost) -> Cost {
     WORKING_NONE
 }
 
-// By which cost a site has a turn whose cells fall from `old` to `by`, each where that is less: where the sites wait, by the greatest finite cell that
-// it has then, else by the least to which one falls.
-fn turn_cost(waits: bool, by: Four, old: Four) -> Cost {
+// By which key a site has a turn that had the cells `old` and is given `by`: where the sites wait, by the sum of what it is given, else by the least to
+// which a cell falls.
+fn turn_key(waits: bool, by: Four, old: Four) -> u64
+    ensures { λ r. ⌜ r < keyLimit ⌝ }
+{
     if waits {
-        return greatest_of(lesser_of(by, old));
+        return sum_of(by);
     }
-    least_of(Four {
+    let least = least_of(Four {
         a: fallen(by.a, old.a),
         b: fallen(by.b, old.b),
         c: fallen(by.c, old.c),
         d: fallen(by.d, old.d),
-    })
+    });
+    least as u64
 }
 
 // Each cell of site u that is above what a leg gives falls to it, and the site has a turn.
@@ -46,8 +48,8 @@ fn lower_in_turn(waits: bool, u: usize, by: Four, lanes: &mut [Cost], turns: &mu
     requires { ⌜ (length (now turns) ≡ turnEntries) × (u < maxNodes) × (u * 4 + 4 ≤ length (now lanes)) ⌝ }
     ensures { λ _. ⌜ LoweredAt u by (now (lanes .entry)) (now (lanes .exit)) ⌝ }
 {
-    let cost = turn_cost(waits, by, lanes_of(lanes, u));
-    enter(u, cost, turns);
+    let key = turn_key(waits, by, lanes_of(lanes, u));
+    enter(u, key, turns);
     lower(lanes, u, by);
 }
 
