@@ -21,6 +21,9 @@ const LARGE_GROUPS: usize = 1152;
 
 pub const ENTRIES: usize = 1168;
 
+// Turns are taken in rounds, 0, 1 and this one.
+pub const LAST_ROUND: u8 = 2;
+
 // The lesser of two turns.
 fn sooner(x: u64, y: u64) -> u64
     ensures { λ r. ⌜ r ≡ min x y ⌝ }
@@ -98,7 +101,7 @@ fn finite_or(cost: Cost, other: Cost) -> Cost {
 }
 
 // The sum of four costs; for one that is "none" or more, the least of them counts.
-pub fn sum_of(four: Four) -> u64
+pub fn cost_sum(four: Four) -> u64
     ensures { λ r. ⌜ r < keyLimit ⌝ }
 {
     let least = least_of(four);
@@ -114,7 +117,7 @@ fn enter_by_sum(v: usize, here: Four, turns: &mut [u64])
     if least_of(here) == WORKING_NONE {
         return;
     }
-    enter(v, sum_of(here), turns);
+    enter(v, cost_sum(here), turns);
 }
 
 // Site v, which has these cells, has its turn by the least of them, where it has a turn.
@@ -127,24 +130,24 @@ fn enter_by_least(v: usize, here: Four, turns: &mut [u64])
     enter(v, least_of(here) as u64, turns);
 }
 
-// The one where the sites wait, else the other.
-fn enter_site(waits: bool, v: usize, here: Four, turns: &mut [u64])
+// The one in round 0, else the other.
+fn enter_site(round: u8, v: usize, here: Four, turns: &mut [u64])
     requires { ⌜ (length (now turns) ≡ turnEntries) × (v < maxNodes) ⌝ }
 {
-    if waits {
+    if round == 0 {
         enter_by_sum(v, here, turns);
         return;
     }
     enter_by_least(v, here, turns);
 }
 
-// Where the sites wait, each that has a finite cell has a turn, by the sum of its cells; else each that has a turn has it by the least of them.
-pub fn enter_all(waits: bool, lanes: &[Cost], n: usize, turns: &mut [u64])
+// In round 0 each site that has a finite cell has a turn, by the sum of its cells; in a later one each that still has a turn has it by the least of them.
+pub fn enter_all(round: u8, lanes: &[Cost], n: usize, turns: &mut [u64])
     requires { ⌜ (length (now turns) ≡ turnEntries) × (n ≤ maxNodes) × (n * 4 ≤ length (now lanes)) ⌝ }
 {
     let mut v = 0;
     while v < n {
-        enter_site(waits, v, lanes_of(lanes, v), turns);
+        enter_site(round, v, lanes_of(lanes, v), turns);
         v += 1;
     }
 }

@@ -2,6 +2,7 @@
 // the legs that end there are tried, by the index. It only makes the settling short: that no leg gives less is found there.
 use limits::Cost;
 use turn_table::ENTRIES;
+use turn_table::LAST_ROUND;
 use turn_table::NO_TURN;
 use turn_table::enter_all;
 use turn_table::leave;
@@ -14,24 +15,24 @@ ghost use Rattle.limits.specs.Limits.{maxNodes};
 ghost use Rattle.turn_table.specs.laws.Entries.{turnEntries};
 ghost use Rattle.visits.specs.laws.ByIndex.{SomeArcs, LoweredByIndex};
 
-// How many turns are taken at most.
-fn most_turns(waits: bool, n: usize) -> usize
+// How many turns are taken in a round at most.
+fn most_turns(round: u8, n: usize) -> usize
     requires { ⌜ n ≤ maxNodes ⌝ }
 {
-    if waits {
+    if round < LAST_ROUND {
         return n + n / 4;
     }
     5 * n
 }
 
-// Turn after turn, the least first.
+// The turns of a round, the least first.
 fn take_turns(
     starts: &[u16],
     weights: &[u32],
     index: &[u16],
     places: &[u16],
     n: usize,
-    waits: bool,
+    round: u8,
     lanes: &mut [Cost],
     turns: &mut [u64],
 )
@@ -39,22 +40,22 @@ fn take_turns(
     ensures { λ _. ⌜ LoweredByIndex n (now (starts .entry)) (now (weights .entry)) (now (index .entry)) (now (places .entry))
         (now (lanes .entry)) (now (lanes .exit)) ⌝ }
 {
-    enter_all(waits, lanes, n, turns);
-    let mut left = most_turns(waits, n);
+    enter_all(round, lanes, n, turns);
+    let mut left = most_turns(round, n);
     while 0 < left {
         let v = next_site(turns);
         if n <= v {
             return;
         }
         leave(v, turns);
-        visit(starts, weights, index, places, n, waits, v, lanes, turns);
+        visit(starts, weights, index, places, n, round, v, lanes, turns);
         left -= 1;
     }
 }
 
-// The cells of four sets, lowered along the legs by turns. At first the sites wait: a site has its turn by the sum of four costs, so that most sites have
-// one turn, when their cells of all four sets have fallen. Then they do not, and a site has its turn by the least cost to which a cell fell: in each
-// turn but the first of a site, a cell that fell since its last turn falls no more, so that 5 n turns are enough.
+// The cells of four sets, lowered along the legs by turns. In the first rounds a site waits: it has its turn by a sum of four costs, so that most sites
+// have one turn, when their cells of all four sets have fallen. In the last one it has its turn by the least cost to which a cell fell: in each turn
+// but the first of a site, a cell that fell since its last turn falls no more, so that 5 n turns are enough.
 pub fn lower_by_turns(
     starts: &[u16],
     weights: &[u32],
@@ -68,6 +69,7 @@ pub fn lower_by_turns(
         (now (lanes .entry)) (now (lanes .exit)) ⌝ }
 {
     let mut turns = [NO_TURN; ENTRIES];
-    take_turns(starts, weights, index, places, n, true, lanes, &mut turns);
-    take_turns(starts, weights, index, places, n, false, lanes, &mut turns);
+    take_turns(starts, weights, index, places, n, 0, lanes, &mut turns);
+    take_turns(starts, weights, index, places, n, 1, lanes, &mut turns);
+    take_turns(starts, weights, index, places, n, 2, lanes, &mut turns);
 }

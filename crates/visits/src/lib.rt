@@ -5,9 +5,10 @@ use limits::Cost;
 use settling::along;
 use settling::falls;
 use settling::lower;
+use turn_table::LAST_ROUND;
+use turn_table::cost_sum;
 use turn_table::enter;
 use turn_table::least_of;
-use turn_table::sum_of;
 use working_none::WORKING_NONE;
 ghost use mathlib.Core.Path.{_≡_};
 ghost use Prim.Native.Nat.{_+_, _*_, _<_, _≤_};
@@ -26,13 +27,13 @@ fn fallen(new: Cost, old: Cost) -> Cost {
     WORKING_NONE
 }
 
-// By which key a site has a turn that had the cells `old` and is given `by`: where the sites wait, by the sum of what it is given, else by the least to
-// which a cell falls.
-fn turn_key(waits: bool, by: Four, old: Four) -> u64
+// By which key a site has a turn that had the cells `old` and is given `by`: by the sum of what it is given, and in the last round by the least to which
+// a cell falls.
+fn turn_key(round: u8, by: Four, old: Four) -> u64
     ensures { λ r. ⌜ r < keyLimit ⌝ }
 {
-    if waits {
-        return sum_of(by);
+    if round < LAST_ROUND {
+        return cost_sum(by);
     }
     let least = least_of(Four {
         a: fallen(by.a, old.a),
@@ -44,11 +45,11 @@ fn turn_key(waits: bool, by: Four, old: Four) -> u64
 }
 
 // Each cell of site u that is above what a leg gives falls to it, and the site has a turn.
-fn lower_in_turn(waits: bool, u: usize, by: Four, lanes: &mut [Cost], turns: &mut [u64])
+fn lower_in_turn(round: u8, u: usize, by: Four, lanes: &mut [Cost], turns: &mut [u64])
     requires { ⌜ (length (now turns) ≡ turnEntries) × (u < maxNodes) × (u * 4 + 4 ≤ length (now lanes)) ⌝ }
     ensures { λ _. ⌜ LoweredAt u by (now (lanes .entry)) (now (lanes .exit)) ⌝ }
 {
-    let key = turn_key(waits, by, lanes_of(lanes, u));
+    let key = turn_key(round, by, lanes_of(lanes, u));
     enter(u, key, turns);
     lower(lanes, u, by);
 }
@@ -85,7 +86,7 @@ pub fn visit(
     index: &[u16],
     places: &[u16],
     n: usize,
-    waits: bool,
+    round: u8,
     v: usize,
     lanes: &mut [Cost],
     turns: &mut [u64],
@@ -103,7 +104,7 @@ pub fn visit(
         let e = index[i] as usize;
         let start = starts[e] as usize;
         let by = along(here, weights[e]);
-        lower_in_turn(waits, start, by, lanes, turns);
+        lower_in_turn(round, start, by, lanes, turns);
         i = next_falling(starts, weights, index, here, i + 1, end, lanes);
     }
 }

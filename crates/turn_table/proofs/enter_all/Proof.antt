@@ -10,10 +10,10 @@ use Rattle.turn_table.proofs.enter_all.Statement.{statement}
 use Rattle.turn_table.proofs.enter_all.Tie as tie
 
 abbrev Inv-loop : tie.InvT-loop
-Inv-loop waits lanes n turns₀ v₀ turns v = length turns ≡ turnEntries
+Inv-loop round lanes n turns₀ v₀ turns v = length turns ≡ turnEntries
 
 abbrev μ-loop : tie.MeasureT-loop
-μ-loop waits lanes n turns₀ v₀ turns v = n - v
+μ-loop round lanes n turns₀ v₀ turns v = n - v
 
 loop-holds : tie.Need-loop-holds Inv-loop μ-loop
 loop-holds c = c .before .before .pre .0

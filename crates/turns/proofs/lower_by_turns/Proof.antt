@@ -17,11 +17,17 @@ slice-aggregate-take-turns-2 c = search needs
 take-turns-requires-2 : tie.Need-take-turns-requires-2
 take-turns-requires-2 c κs = (search needs, still-some (c .before .before .before .before .before .take-turns .ensures) (c .before .before .before .before .before .before .before .before .before .before .before .before .before .pre))
 
+slice-aggregate-take-turns-3 : tie.Need-slice-aggregate-take-turns-3
+slice-aggregate-take-turns-3 c = search needs
+
+take-turns-requires-3 : tie.Need-take-turns-requires-3
+take-turns-requires-3 c κs = (search needs, still-some (index-more (c .before .before .before .before .before .before .before .before .before .before .before .take-turns .ensures) (c .before .before .before .before .before .take-turns2 .ensures)) (c .before .before .before .before .before .before .before .before .before .before .before .before .before .before .before .before .before .before .before .pre))
+
 same-length : tie.Need-same-length
 same-length c = search needs
 
 returns : tie.Need-returns
-returns c = index-more (c .before .before .before .before .before .before .before .before .before .take-turns .ensures) (c .before .before .before .take-turns2 .ensures)
+returns c = index-more (index-more (c .before .before .before .before .before .before .before .before .before .before .before .before .before .before .before .take-turns .ensures) (c .before .before .before .before .before .before .before .before .before .take-turns2 .ensures)) (c .before .before .before .take-turns3 .ensures)
 
 pub lower-by-turns-spec : {M : Type 1} → statement M
 lower-by-turns-spec =
@@ -31,5 +37,7 @@ lower-by-turns-spec =
     take-turns-requires
     slice-aggregate-take-turns-2
     take-turns-requires-2
+    slice-aggregate-take-turns-3
+    take-turns-requires-3
     same-length
     returns)

@@ -10,10 +10,10 @@ use Rattle.turns.proofs.take_turns.Statement.{statement}
 use Rattle.turns.proofs.take_turns.Tie as tie
 
 abbrev Inv-loop : tie.InvT-loop
-Inv-loop starts weights index places n waits lanes₀ turns₀ left₀ lanes turns left = (length turns ≡ turnEntries) × LoweredByIndex n starts weights index places lanes₀ lanes
+Inv-loop starts weights index places n round lanes₀ turns₀ left₀ lanes turns left = (length turns ≡ turnEntries) × LoweredByIndex n starts weights index places lanes₀ lanes
 
 abbrev μ-loop : tie.MeasureT-loop
-μ-loop starts weights index places n waits lanes₀ turns₀ left₀ lanes turns left = left
+μ-loop starts weights index places n round lanes₀ turns₀ left₀ lanes turns left = left
 
 enter-all-requires : tie.Need-enter-all-requires Inv-loop μ-loop
 enter-all-requires c κs = (c .before .before .before .before .before .before .before .before .pre .0, c .before .before .before .before .before .before .before .before .pre .1 .by-end .few, c .before .before .before .before .before .before .before .before .pre .1 .by-end .wide)

@@ -12,10 +12,10 @@ use Rattle.visits.proofs.visit.Statement.{statement}
 use Rattle.visits.proofs.visit.Tie as tie
 
 abbrev Inv-loop : tie.InvT-loop
-Inv-loop starts weights index places n waits v lanes₀ turns₀ here end first i₀ lanes turns i = (entry places v ≤ i) × (length turns ≡ turnEntries) × LoweredByIndex n starts weights index places lanes₀ lanes
+Inv-loop starts weights index places n round v lanes₀ turns₀ here end first i₀ lanes turns i = (entry places v ≤ i) × (length turns ≡ turnEntries) × LoweredByIndex n starts weights index places lanes₀ lanes
 
 abbrev μ-loop : tie.MeasureT-loop
-μ-loop starts weights index places n waits v lanes₀ turns₀ here end first i₀ lanes turns i = end - i
+μ-loop starts weights index places n round v lanes₀ turns₀ here end first i₀ lanes turns i = end - i
 
 lanes-of-requires : tie.Need-lanes-of-requires Inv-loop μ-loop
 lanes-of-requires c κs = at-node (c .before .before .before .before .before .before .before .pre .2) (c .before .before .before .before .before .before .before .pre .1) .fits
