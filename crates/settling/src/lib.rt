@@ -12,7 +12,7 @@ ghost use Rattle.lent_tables.specs.SheetTables.{arcsAlone};
 ghost use Rattle.lanes.specs.laws.Four.{fourOf, FourLow};
 ghost use Rattle.settling.specs.laws.Arcs.{ArcLanes, startAt, endAt, weightAt};
 ghost use Rattle.settling.specs.laws.LowerFour.{alongFour, fallsFour, LoweredAt};
-ghost use Rattle.settling.specs.laws.Lowered.{FirstOpen, Settled};
+ghost use Rattle.settling.specs.laws.Lowered.{FirstOpen, PassedTo, Settled};
 
 // What a leg of this price gives its start, where its end has these cells.
 pub fn along(here: Four, weight: u32) -> Four
@@ -71,7 +71,32 @@ fn first_open(
     e
 }
 
-// As long as there is such a leg, the cells of its start fall. (After a lowering by turns there is none: it leaves this to be found.)
+// Each leg from `from` on: the cells of its start fall to what it gives, where that is less.
+fn lower_from(
+    starts: &[u16],
+    ends: &[u16],
+    weights: &[u32],
+    arcs: usize,
+    n: usize,
+    from: usize,
+    lanes: &mut [Cost],
+)
+    requires { ⌜ (let t = arcsAlone (now starts) (now ends) (now weights) in
+        (ArcLanes n arcs t (now lanes))) ⌝ }
+    ensures { λ _. ⌜ (let t = arcsAlone (now (starts .entry)) (now (ends .entry)) (now (weights .entry)) in
+        (PassedTo arcs (startAt t) (endAt t) (weightAt t) from arcs (now (lanes .entry)) (now (lanes .exit)))) ⌝ }
+{
+    let mut e = from;
+    while e < arcs {
+        let end = ends[e] as usize;
+        let given = along(lanes_of(lanes, end), weights[e]);
+        lower(lanes, starts[e] as usize, given);
+        e += 1;
+    }
+}
+
+// As long as there is such a leg, it and those behind it lower the cells of their starts. (After a lowering by turns there is none: it leaves this to be
+// found.)
 pub fn settle(
     starts: &[u16],
     ends: &[u16],
@@ -86,12 +111,10 @@ pub fn settle(
         (Settled arcs (startAt t) (endAt t) (weightAt t) (now (lanes .entry)) (now (lanes .exit)))) ⌝ }
 {
     loop {
-        let e = first_open(starts, ends, weights, arcs, n, lanes);
-        if e == arcs {
+        let open = first_open(starts, ends, weights, arcs, n, lanes);
+        if open == arcs {
             return;
         }
-        let end = ends[e] as usize;
-        let by = along(lanes_of(lanes, end), weights[e]);
-        lower(lanes, starts[e] as usize, by);
+        lower_from(starts, ends, weights, arcs, n, open, lanes);
     }
 }

@@ -1,14 +1,11 @@
 -- `settling::settle` meets its contract. The loop's invariant: the cells are lowered along arcs. The measure is their sum.
 -- Assumes nothing.
-use mathlib.Core.Path.{refl}
-use native.Mathlib.Omega.{arith}
 use lib.ListN.{length}
 use Rattle.lists.specs.Sums.{sumTo}
 use Rattle.lent_tables.specs.SheetTables.{arcsAlone}
 use Rattle.working_none.specs.laws.Low.{entry}
 use Rattle.settling.specs.laws.Arcs.{startAt, endAt, weightAt, arc-known}
-use Rattle.settling.specs.laws.LowerFour.{along-asked}
-use Rattle.settling.specs.laws.Lowered.{Lowered, along-arc, is-arc, lowered-none, lowered-next, sum-falls, settled-end, still-lanes}
+use Rattle.settling.specs.laws.Lowered.{Lowered, is-arc, lowered-none, lowered-more, sum-falls, settled-end, still-lanes}
 use Rattle.settling.proofs.settle.Statement.{statement}
 use Rattle.settling.proofs.settle.Tie as tie
 
@@ -30,44 +27,14 @@ same-length c = c .before .before .before .loop .inv .same-length
 returns : tie.Need-returns Inv-loop μ-loop
 returns c = settled-end (c .if1 .taken) (c .before .before .before .loop .inv) (c .before .first-open .ensures)
 
-mul-end : tie.Need-mul-end Inv-loop μ-loop
-mul-end c = omega (arith, arc-known (still-lanes (c .before .before .before .loop .inv) (c .before .before .before .before .before .before .before .before .pre)) (is-arc (c .before .first-open .ensures) (c .if1 .left)))
-
-shared-slice-read-end : tie.Need-shared-slice-read-end Inv-loop μ-loop
-shared-slice-read-end c = omega (arith, arc-known (still-lanes (c .before .before .before .before .loop .inv) (c .before .before .before .before .before .before .before .before .before .pre)) (is-arc (c .before .before .first-open .ensures) (c .before .if1 .left)))
-
-cast-end : tie.Need-cast-end Inv-loop μ-loop
-cast-end c = omega (arith, arc-known (still-lanes (c .before .before .before .before .loop .inv) (c .before .before .before .before .before .before .before .before .before .pre)) (is-arc (c .before .before .first-open .ensures) (c .before .if1 .left)))
-
-lanes-of-requires : tie.Need-lanes-of-requires Inv-loop μ-loop
-lanes-of-requires c κs = omega (arith, arc-known (still-lanes (c .before .before .before .before .before .loop .inv) (c .before .before .before .before .before .before .before .before .before .before .pre)) (is-arc (c .before .before .before .first-open .ensures) (c .before .before .if1 .left)))
-
-mul-along : tie.Need-mul-along Inv-loop μ-loop
-mul-along c = omega (arith, arc-known (still-lanes (c .before .before .before .before .before .before .loop .inv) (c .before .before .before .before .before .before .before .before .before .before .before .pre)) (is-arc (c .before .before .before .before .first-open .ensures) (c .before .before .before .if1 .left)))
-
-shared-slice-read-along : tie.Need-shared-slice-read-along Inv-loop μ-loop
-shared-slice-read-along c = omega (arith, arc-known (still-lanes (c .before .before .before .before .before .before .before .loop .inv) (c .before .before .before .before .before .before .before .before .before .before .before .before .pre)) (is-arc (c .before .before .before .before .before .first-open .ensures) (c .before .before .before .before .if1 .left)))
-
-along-requires : tie.Need-along-requires Inv-loop μ-loop
-along-requires c κs = along-asked (still-lanes (c .before .before .before .before .before .before .before .loop .inv) (c .before .before .before .before .before .before .before .before .before .before .before .before .pre)) (is-arc (c .before .before .before .before .before .first-open .ensures) (c .before .before .before .before .if1 .left)) (c .before .lanes-of .ensures)
-
-mul-lower : tie.Need-mul-lower Inv-loop μ-loop
-mul-lower c = omega (arith, arc-known (still-lanes (c .before .before .before .before .before .before .before .before .before .loop .inv) (c .before .before .before .before .before .before .before .before .before .before .before .before .before .before .pre)) (is-arc (c .before .before .before .before .before .before .before .first-open .ensures) (c .before .before .before .before .before .before .if1 .left)))
-
-shared-slice-read-lower : tie.Need-shared-slice-read-lower Inv-loop μ-loop
-shared-slice-read-lower c = omega (arith, arc-known (still-lanes (c .before .before .before .before .before .before .before .before .before .before .loop .inv) (c .before .before .before .before .before .before .before .before .before .before .before .before .before .before .before .pre)) (is-arc (c .before .before .before .before .before .before .before .before .first-open .ensures) (c .before .before .before .before .before .before .before .if1 .left)))
-
-cast-lower : tie.Need-cast-lower Inv-loop μ-loop
-cast-lower c = omega (arith, arc-known (still-lanes (c .before .before .before .before .before .before .before .before .before .before .loop .inv) (c .before .before .before .before .before .before .before .before .before .before .before .before .before .before .before .pre)) (is-arc (c .before .before .before .before .before .before .before .before .first-open .ensures) (c .before .before .before .before .before .before .before .if1 .left)))
-
-lower-requires : tie.Need-lower-requires Inv-loop μ-loop
-lower-requires c κs = omega (arith, arc-known (still-lanes (c .before .before .before .before .before .before .before .before .before .before .loop .inv) (c .before .before .before .before .before .before .before .before .before .before .before .before .before .before .before .pre)) (is-arc (c .before .before .before .before .before .before .before .before .first-open .ensures) (c .before .before .before .before .before .before .before .if1 .left)))
+lower-from-requires : tie.Need-lower-from-requires Inv-loop μ-loop
+lower-from-requires c κs = still-lanes (c .before .before .before .before .loop .inv) (c .before .before .before .before .before .before .before .before .before .pre)
 
 loop-less : tie.Need-loop-less Inv-loop μ-loop
-loop-less c = sum-falls (c .before .before .before .before .before .before .before .before .before .before .before .before .before .loop .inv) (c .before .before .before .before .before .before .before .before .before .before .before .first-open .ensures) (is-arc (c .before .before .before .before .before .before .before .before .before .before .before .first-open .ensures) (c .before .before .before .before .before .before .before .before .before .before .if1 .left)) (along-arc _ _ (c .before .before .before .before .before .before .before .lanes-of .ensures) (c .before .before .before .before .before .along .ensures) refl refl) (c .before .before .lower .ensures) (arc-known (still-lanes (c .before .before .before .before .before .before .before .before .before .before .before .before .before .loop .inv) (c .before .before .before .before .before .before .before .before .before .before .before .before .before .before .before .before .before .before .pre)) (is-arc (c .before .before .before .before .before .before .before .before .before .before .before .first-open .ensures) (c .before .before .before .before .before .before .before .before .before .before .if1 .left)) .start-fits)
+loop-less c = let on = is-arc (c .before .before .before .before .before .first-open .ensures) (c .before .before .before .before .if1 .left) in sum-falls (c .before .before .before .before .before .before .before .loop .inv) (c .before .before .before .before .before .first-open .ensures) on (c .before .before .lower-from .ensures) (arc-known (still-lanes (c .before .before .before .before .before .before .before .loop .inv) (c .before .before .before .before .before .before .before .before .before .before .before .before .pre)) on .start-fits)
 
 loop-again : tie.Need-loop-again Inv-loop μ-loop
-loop-again c = lowered-next (c .before .before .before .before .before .before .before .before .before .before .before .before .before .loop .inv) (c .before .before .before .before .before .before .before .before .before .before .before .first-open .ensures) (is-arc (c .before .before .before .before .before .before .before .before .before .before .before .first-open .ensures) (c .before .before .before .before .before .before .before .before .before .before .if1 .left)) (along-arc _ _ (c .before .before .before .before .before .before .before .lanes-of .ensures) (c .before .before .before .before .before .along .ensures) refl refl) (c .before .before .lower .ensures)
+loop-again c = lowered-more (c .before .before .before .before .before .before .before .loop .inv) (c .before .before .lower-from .ensures .lowered)
 
 pub settle-spec : {M : Type 1} → statement M
 settle-spec =
@@ -79,16 +46,6 @@ settle-spec =
     first-open-requires
     same-length
     returns
-    mul-end
-    shared-slice-read-end
-    cast-end
-    lanes-of-requires
-    mul-along
-    shared-slice-read-along
-    along-requires
-    mul-lower
-    shared-slice-read-lower
-    cast-lower
-    lower-requires
+    lower-from-requires
     loop-less
     loop-again)

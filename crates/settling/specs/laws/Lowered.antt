@@ -41,6 +41,11 @@ module _ (m : ℕ) (start end weight : ℕ → ℕ) where
     pub before : ClosedTo start end weight lanes r
     pub gives : r < m → (j : ℕ) × (j < 4) × (weight r + cellIn lanes 4 (end r) j < cellIn lanes 4 (start r) j)
 
+  -- lowered by the arcs from r up to e: the cells of the start of r are not above what r gives
+  pub record PassedTo (r e : ℕ) (before after : List ℕ) : Type 0 where
+    pub lowered : Lowered before after
+    pub first : r < e → (j : ℕ) → j < 4 → cellIn after 4 (start r) j ≤ weight r + cellIn before 4 (end r) j
+
   -- lowered, until no arc gives less
   pub record Settled (before after : List ℕ) : Type 0 where
     pub lowered : Lowered before after
@@ -161,20 +166,38 @@ module _ {m : ℕ} {start end weight : ℕ → ℕ} where
   entry-low {before} {after} L i =
       subst (λ (x : ℕ). entry after x ≤ entry before x) (div-add-mod' i 4) (L .low (i / 4) (i % 4) (mod-lt i (omega arith)))
 
-  -- the first arc that gives less lowers a cell, and with it their sum
-  module _ {r : ℕ} {by : Four} {before mid after : List ℕ} (L : Lowered m start end weight before mid) (F : FirstOpen m start end weight mid r) (on : r < m)
-      (B : Along end weight mid r by) (A : LoweredAt (start r) by mid after) where
-    this-arc : Lowered m start end weight mid after
-    this-arc = lowered-by-arc on refl (λ i l. omega (arith, B .gives i l)) A
+  -- ---- arc after arc
 
-    pub lowered-next : Lowered m start end weight before after
-    lowered-next = lowered-more L this-arc
+  pub passed-none : {r : ℕ} {before : List ℕ} → PassedTo m start end weight r r before before
+  passed-none = record { lowered = lowered-none; first = λ l. absurd (omega arith) }
 
+  pub passed-next : {r e : ℕ} {by : Four} {before mid after : List ℕ} → PassedTo m start end weight r e before mid → r ≤ e → e < m
+      → Along end weight mid e by → LoweredAt (start e) by mid after → PassedTo m start end weight r (e + 1) before after
+  passed-next {r} {e} {by} {before} {mid} {after} P from on B A = record {
+    lowered = lowered-more (P .lowered) this-arc;
+    first = λ _ j s. go j s (ℕ-discrete r e);
+  }
+    where
+      this-arc : Lowered m start end weight mid after
+      this-arc = lowered-by-arc on refl (λ j s. omega (arith, B .gives j s)) A
+
+      go : (j : ℕ) → j < 4 → Dec (r ≡ e) → cellIn after 4 (start r) j ≤ weight r + cellIn before 4 (end r) j
+      go j s (yes q) =
+          subst (λ (x : ℕ). cellIn after 4 (start x) j ≤ weight x + cellIn before 4 (end x) j) (sym q)
+          (omega (arith, A .here j s, B .gives j s, P .lowered .low (end e) j s))
+      go j s (no ne) = omega (arith, this-arc .low (start r) j s, P .first (omega arith) j s)
+
+  pub passed-all : {r e : ℕ} {before after : List ℕ} → m ≤ e → PassedTo m start end weight r e before after → PassedTo m start end weight r m before after
+  passed-all l P = record { lowered = P .lowered; first = λ on. P .first (omega arith) }
+
+  -- from the first arc that gives less on: a cell falls, and with it their sum
+  module _ {r : ℕ} {before mid after : List ℕ} (L : Lowered m start end weight before mid) (F : FirstOpen m start end weight mid r) (on : r < m)
+      (P : PassedTo m start end weight r m mid after) where
     pub sum-falls : start r * 4 + 4 ≤ length mid → sumTo (length before) (entry after) < sumTo (length before) (entry mid)
     sum-falls long =
         let (j, s, less) = F .gives on in
-        sumTo-lt (length before) (start r * 4 + j) (entry after) (entry mid) (λ i _. entry-low this-arc i) (omega (arith, L .same-length))
-        (omega (arith, A .here j s, B .gives j s))
+        sumTo-lt (length before) (start r * 4 + j) (entry after) (entry mid) (λ i _. entry-low (P .lowered) i) (omega (arith, L .same-length))
+        (omega (arith, P .first on j s))
 
   -- no arc is left that gives less
   pub settled-end : {before after : List ℕ} {r : ℕ} → r ≡ m → Lowered m start end weight before after → FirstOpen m start end weight after r

@@ -1,0 +1,93 @@
+-- `settling::lower_from` meets its contract. The loop's invariant: the cells are lowered by the arcs so far.
+-- Assumes nothing.
+use Prim.Native.Nat.{_-_, _≤_}
+use mathlib.Core.Path.{refl}
+use native.Mathlib.Omega.{arith}
+use borrow.Author.Needs.{needs}
+use Rattle.lent_tables.specs.SheetTables.{arcsAlone}
+use Rattle.settling.specs.laws.Arcs.{startAt, endAt, weightAt, arc-known}
+use Rattle.settling.specs.laws.LowerFour.{along-asked}
+use Rattle.settling.specs.laws.Lowered.{PassedTo, along-arc, passed-none, passed-next, passed-all, still-lanes}
+use Rattle.settling.proofs.lower_from.Statement.{statement}
+use Rattle.settling.proofs.lower_from.Tie as tie
+
+abbrev Inv-loop : tie.InvT-loop
+Inv-loop starts ends weights arcs n from lanes₀ e₀ lanes e = (from ≤ e) × (let t = arcsAlone starts ends weights in PassedTo arcs (startAt t) (endAt t) (weightAt t) from e lanes₀ lanes)
+
+abbrev μ-loop : tie.MeasureT-loop
+μ-loop starts ends weights arcs n from lanes₀ e₀ lanes e = arcs - e
+
+loop-holds : tie.Need-loop-holds Inv-loop μ-loop
+loop-holds c = (omega arith, passed-none)
+
+mul-end : tie.Need-mul-end Inv-loop μ-loop
+mul-end c = omega (arith, arc-known (still-lanes (c .before .loop .inv .1 .lowered) (c .before .before .before .before .before .before .pre)) (c .loop-test .taken))
+
+shared-slice-read-end : tie.Need-shared-slice-read-end Inv-loop μ-loop
+shared-slice-read-end c = arc-known (still-lanes (c .before .before .loop .inv .1 .lowered) (c .before .before .before .before .before .before .before .pre)) (c .before .loop-test .taken) .ends-long
+
+cast-end : tie.Need-cast-end Inv-loop μ-loop
+cast-end c = omega (arith, arc-known (still-lanes (c .before .before .loop .inv .1 .lowered) (c .before .before .before .before .before .before .before .pre)) (c .before .loop-test .taken))
+
+lanes-of-requires : tie.Need-lanes-of-requires Inv-loop μ-loop
+lanes-of-requires c κs = arc-known (still-lanes (c .before .before .before .loop .inv .1 .lowered) (c .before .before .before .before .before .before .before .before .pre)) (c .before .before .loop-test .taken) .end-fits
+
+mul-along : tie.Need-mul-along Inv-loop μ-loop
+mul-along c = omega (arith, arc-known (still-lanes (c .before .before .before .before .loop .inv .1 .lowered) (c .before .before .before .before .before .before .before .before .before .pre)) (c .before .before .before .loop-test .taken))
+
+shared-slice-read-along : tie.Need-shared-slice-read-along Inv-loop μ-loop
+shared-slice-read-along c = arc-known (still-lanes (c .before .before .before .before .before .loop .inv .1 .lowered) (c .before .before .before .before .before .before .before .before .before .before .pre)) (c .before .before .before .before .loop-test .taken) .weights-long
+
+along-requires : tie.Need-along-requires Inv-loop μ-loop
+along-requires c κs = along-asked (still-lanes (c .before .before .before .before .before .loop .inv .1 .lowered) (c .before .before .before .before .before .before .before .before .before .before .pre)) (c .before .before .before .before .loop-test .taken) (c .before .lanes-of .ensures)
+
+mul-lower : tie.Need-mul-lower Inv-loop μ-loop
+mul-lower c = omega (arith, arc-known (still-lanes (c .before .before .before .before .before .before .before .loop .inv .1 .lowered) (c .before .before .before .before .before .before .before .before .before .before .before .before .pre)) (c .before .before .before .before .before .before .loop-test .taken))
+
+shared-slice-read-lower : tie.Need-shared-slice-read-lower Inv-loop μ-loop
+shared-slice-read-lower c = arc-known (still-lanes (c .before .before .before .before .before .before .before .before .loop .inv .1 .lowered) (c .before .before .before .before .before .before .before .before .before .before .before .before .before .pre)) (c .before .before .before .before .before .before .before .loop-test .taken) .starts-long
+
+cast-lower : tie.Need-cast-lower Inv-loop μ-loop
+cast-lower c = omega (arith, arc-known (still-lanes (c .before .before .before .before .before .before .before .before .loop .inv .1 .lowered) (c .before .before .before .before .before .before .before .before .before .before .before .before .before .pre)) (c .before .before .before .before .before .before .before .loop-test .taken))
+
+lower-requires : tie.Need-lower-requires Inv-loop μ-loop
+lower-requires c κs = arc-known (still-lanes (c .before .before .before .before .before .before .before .before .loop .inv .1 .lowered) (c .before .before .before .before .before .before .before .before .before .before .before .before .before .pre)) (c .before .before .before .before .before .before .before .loop-test .taken) .start-fits
+
+add-e : tie.Need-add-e Inv-loop μ-loop
+add-e c = search needs
+
+loop-less : tie.Need-loop-less Inv-loop μ-loop
+loop-less c = search needs
+
+loop-again : tie.Need-loop-again Inv-loop μ-loop
+loop-again c = (omega (arith, c .before .before .before .before .before .before .before .before .before .before .before .loop .inv .0), passed-next (c .before .before .before .before .before .before .before .before .before .before .before .loop .inv .1) (c .before .before .before .before .before .before .before .before .before .before .before .loop .inv .0) (c .before .before .before .before .before .before .before .before .before .before .loop-test .taken) (along-arc _ _ (c .before .before .before .before .before .before .before .lanes-of .ensures) (c .before .before .before .before .before .along .ensures) refl refl) (c .before .before .lower .ensures))
+
+same-length : tie.Need-same-length Inv-loop μ-loop
+same-length c = c .before .loop .inv .1 .lowered .same-length
+
+returns : tie.Need-returns Inv-loop μ-loop
+returns c = passed-all (c .loop-test .left) (c .before .loop .inv .1)
+
+pub lower-from-spec : {M : Type 1} → statement M
+lower-from-spec =
+    tie.close
+    (tie.spec
+    Inv-loop
+    μ-loop
+    loop-holds
+    mul-end
+    shared-slice-read-end
+    cast-end
+    lanes-of-requires
+    mul-along
+    shared-slice-read-along
+    along-requires
+    mul-lower
+    shared-slice-read-lower
+    cast-lower
+    lower-requires
+    add-e
+    loop-less
+    loop-again
+    same-length
+    returns)
