@@ -13,7 +13,11 @@ lower-by-turns-requires : tie.Need-lower-by-turns-requires
 lower-by-turns-requires c κs = taken-some (c .before .before .before .before .before .before .before .before .before .before .before .before .before .pre .0) (c .before .before .before .before .before .before .before .before .before .before .before .before .before .pre .1) (c .before .before .before .take-columns .ensures)
 
 settle-requires : tie.Need-settle-requires
-settle-requires c κs = turned-lanes (c .before .before .before .before .before .before .before .before .before .before .before .before .before .before .before .before .before .pre .0) (c .before .before .before .before .before .before .before .before .before .before .before .before .before .before .before .before .before .pre .1) (c .before .before .before .before .before .before .before .take-columns .ensures) (c .before .before .before .lower-by-turns .ensures)
+settle-requires c κs =
+    let lowered = c .before .before .before in
+    let taken = lowered .before .before .before .before in
+    let start = taken .before .before .before .before .before .before .before .before .before .before in
+    turned-lanes (start .pre .0) (start .pre .1) (taken .take-columns .ensures) (lowered .lower-by-turns .ensures)
 
 give-columns-requires : tie.Need-give-columns-requires
 give-columns-requires c κs = search needs
@@ -25,7 +29,12 @@ same-length-2 : tie.Need-same-length-2
 same-length-2 c = search needs
 
 returns : tie.Need-returns
-returns c = four-closed (c .before .before .before .before .before .before .before .before .before .before .before .before .before .before .before .before .before .before .before .before .before .before .before .before .before .pre .0) (c .before .before .before .before .before .before .before .before .before .before .before .before .before .before .before .before .before .before .before .before .before .before .before .before .before .pre .1) (c .before .before .before .before .before .before .before .before .before .before .before .before .before .before .before .take-columns .ensures) (c .before .before .before .before .before .before .before .before .before .before .before .lower-by-turns .ensures) (c .before .before .before .before .before .before .before .settle .ensures) (c .before .before .give-columns .ensures)
+returns c =
+    let settled = c .before .before .before .before .before .before .before in
+    let lowered = settled .before .before .before .before in
+    let taken = lowered .before .before .before .before in
+    let start = taken .before .before .before .before .before .before .before .before .before .before in
+    four-closed (start .pre .0) (start .pre .1) (taken .take-columns .ensures) (lowered .lower-by-turns .ensures) (settled .settle .ensures) (c .before .before .give-columns .ensures)
 
 pub close-four-spec : {M : Type 1} → statement M
 close-four-spec =

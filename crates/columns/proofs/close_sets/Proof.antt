@@ -24,16 +24,29 @@ sets-at-requires : tie.Need-sets-at-requires Inv-loop μ-loop
 sets-at-requires c κs = (c .loop-test .taken, c .before .before .before .before .before .before .before .before .before .before .pre .1 .bound, c .before .before .before .before .before .before .before .before .before .before .pre .2)
 
 close-four-requires : tie.Need-close-four-requires Inv-loop μ-loop
-close-four-requires c κs = (sets-tables (c .before .before .before .before .before .before .before .before .before .before .before .before .before .pre .3) (c .before .before .before .before .loop .inv .2) (c .before .before .before .before .loop .inv .1), four-small (c .before .before .before .before .before .before .before .before .before .before .before .before .before .pre .0) (c .before .before .before .before .before .before .before .before .before .before .before .before .before .pre .1) (c .before .before .before .loop-test .taken) (c .before .before .sets-at .ensures))
+close-four-requires c κs =
+    let tested = c .before .before .before in
+    let turn = tested .before in
+    let start = turn .before .before .before .before .before .before .before .before .before in
+    (sets-tables (start .pre .3) (turn .loop .inv .2) (turn .loop .inv .1), four-small (start .pre .0) (start .pre .1) (tested .loop-test .taken) (c .before .before .sets-at .ensures))
 
 add-position : tie.Need-add-position Inv-loop μ-loop
-add-position c = omega (arith, c .before .before .before .before .before .before .before .before .loop-test .taken, c .before .before .before .before .before .before .before .before .before .before .before .before .before .before .before .before .before .before .pre .1 .bound, c .before .before .before .before .before .before .before .before .before .before .before .before .before .before .before .before .before .before .pre .2)
+add-position c =
+    let tested = c .before .before .before .before .before .before .before .before in
+    let start = tested .before .before .before .before .before .before .before .before .before .before in
+    omega (arith, tested .loop-test .taken, start .pre .1 .bound, start .pre .2)
 
 loop-less : tie.Need-loop-less Inv-loop μ-loop
 loop-less c = search needs
 
 loop-again : tie.Need-loop-again Inv-loop μ-loop
-loop-again c = (omega (arith, c .before .before .before .before .before .before .before .before .before .loop .inv .0), c .before .before .before .before .close-four .kept .1 .1 .1 .1 .1 .1 .1 .1 .1 .1 .0 ∙ c .before .before .before .before .before .before .before .before .before .loop .inv .1, sets-next (c .before .before .before .before .before .before .before .before .before .before .before .before .before .before .before .before .before .before .pre .0) (c .before .before .before .before .before .before .before .before .before .before .before .before .before .before .before .before .before .before .pre .1) (c .before .before .before .before .before .before .before .before .loop-test .taken) (c .before .before .before .before .before .before .before .sets-at .ensures) (c .before .before .before .before .before .before .before .before .before .before .before .before .before .before .before .before .before .before .pre .3 .arcs) (c .before .before .before .before .before .before .before .before .before .loop .inv .0) (c .before .before .before .before .before .before .before .before .before .loop .inv .2) (c .before .before .before .before .close-four .ensures))
+loop-again c =
+    let closed = c .before .before .before .before in
+    let chosen = closed .before .before .before in
+    let tested = chosen .before in
+    let turn = tested .before in
+    let start = turn .before .before .before .before .before .before .before .before .before in
+    (omega (arith, turn .loop .inv .0), closed .close-four .kept .1 .1 .1 .1 .1 .1 .1 .1 .1 .1 .0 ∙ turn .loop .inv .1, sets-next (start .pre .0) (start .pre .1) (tested .loop-test .taken) (chosen .sets-at .ensures) (start .pre .3 .arcs) (turn .loop .inv .0) (turn .loop .inv .2) (closed .close-four .ensures))
 
 same-length : tie.Need-same-length Inv-loop μ-loop
 same-length c = c .before .loop .inv .2 .same-length

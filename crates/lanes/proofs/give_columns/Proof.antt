@@ -31,7 +31,12 @@ loop-less : tie.Need-loop-less Inv-loop μ-loop
 loop-less c = search needs
 
 loop-again : tie.Need-loop-again Inv-loop μ-loop
-loop-again c = (omega (arith, c .before .before .before .before .before .loop-test .taken), give-next (c .before .before .before .before .before .before .before .before .before .pre .2) (c .before .before .before .before .before .loop-test .taken) (c .before .before .before .before .before .before .before .before .before .pre .0) (c .before .before .before .before .before .before .loop .inv .1) (c .before .before .before .lanes-of .ensures) (c .before .before .write-four .ensures))
+loop-again c =
+    let read = c .before .before .before in
+    let tested = read .before .before in
+    let turn = tested .before in
+    let start = turn .before .before .before in
+    (omega (arith, tested .loop-test .taken), give-next (start .pre .2) (tested .loop-test .taken) (start .pre .0) (turn .loop .inv .1) (read .lanes-of .ensures) (c .before .before .write-four .ensures))
 
 same-length : tie.Need-same-length Inv-loop μ-loop
 same-length c = c .before .loop .inv .1 .same-length

@@ -31,7 +31,12 @@ loop-less : tie.Need-loop-less Inv-loop μ-loop
 loop-less c = search needs
 
 loop-again : tie.Need-loop-again Inv-loop μ-loop
-loop-again c = (omega (arith, c .before .before .before .before .before .loop-test .taken), take-next (omega (arith, c .before .before .before .before .before .loop-test .taken, c .before .before .before .before .before .before .loop .inv .1 .same-length, c .before .before .before .before .before .before .before .before .before .pre .1)) (c .before .before .before .before .before .before .loop .inv .1) (c .before .before .before .read-four .ensures) (c .before .before .set-lanes .ensures))
+loop-again c =
+    let read = c .before .before .before in
+    let tested = read .before .before in
+    let turn = tested .before in
+    let start = turn .before .before .before in
+    (omega (arith, tested .loop-test .taken), take-next (omega (arith, tested .loop-test .taken, turn .loop .inv .1 .same-length, start .pre .1)) (turn .loop .inv .1) (read .read-four .ensures) (c .before .before .set-lanes .ensures))
 
 same-length : tie.Need-same-length Inv-loop μ-loop
 same-length c = c .before .loop .inv .1 .same-length

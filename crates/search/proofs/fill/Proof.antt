@@ -29,34 +29,74 @@ start-rows-requires : tie.Need-start-rows-requires Inv-loop μ-loop
 start-rows-requires c κs = start-asked (c .before .before .before .before .before .before .before .before .before .before .before .pre .0) (c .before .sets-of .ensures) (now (c .before .before .before .before .before .before .before .before .before .before .before .args .cells)) (c .before .before .before .before .before .before .before .before .before .before .before .pre .2)
 
 loop-holds : tie.Need-loop-holds Inv-loop μ-loop
-loop-holds c = let p = c .before .before .before .before .before .before .before .before .before .before .before .before .before .before .pre in let is = c .before .before .before .before .sets-of .ensures in let rows = c .before .before .start-rows .ensures in let whole = start-asked (c .before .before .before .before .before .before .before .before .before .before .before .before .before .before .pre .0) (c .before .before .before .before .sets-of .ensures) (now (c .before .before .before .before .before .before .before .before .before .before .before .before .before .before .args .cells)) (c .before .before .before .before .before .before .before .before .before .before .before .before .before .before .pre .2) .2 in (omega arith, some-set (p .0) is (p .4), refl, rows .same-length ∙ whole, fill-start (p .0) is (p .4) whole rows)
+loop-holds c =
+    let sized = c .before .before .before .before in
+    let start = sized .before .before .before .before .before .before .before .before .before .before in
+    let p = start .pre in
+    let is = sized .sets-of .ensures in
+    let rows = c .before .before .start-rows .ensures in
+    let whole = start-asked (start .pre .0) (sized .sets-of .ensures) (now (start .args .cells)) (start .pre .2) .2 in
+    (omega arith, some-set (p .0) is (p .4), refl, rows .same-length ∙ whole, fill-start (p .0) is (p .4) whole rows)
 
 end-of-size-requires : tie.Need-end-of-size-requires Inv-loop μ-loop
 end-of-size-requires c κs = c .loop-test .taken
 
 split-rows-requires : tie.Need-split-rows-requires Inv-loop μ-loop
-split-rows-requires c κs = split-asked (c .before .before .before .before .before .before .before .before .before .before .before .before .before .before .before .before .before .before .pre .0) (c .before .before .before .before .before .before .before .before .sets-of .ensures) (c .before .before .before .before .before .before .before .before .before .before .before .before .before .before .before .before .before .before .pre .4) (c .before .end-of-size .ensures .range) (c .before .before .before .loop .cells) (c .before .before .before .loop .inv .3) (c .before .before .before .loop .inv .0) (c .before .before .before .loop .inv .4)
+split-rows-requires c κs =
+    let turn = c .before .before .before in
+    let sized = turn .before .before .before .before .before in
+    let start = sized .before .before .before .before .before .before .before .before .before .before in
+    split-asked (start .pre .0) (sized .sets-of .ensures) (start .pre .4) (c .before .end-of-size .ensures .range) (turn .loop .cells) (turn .loop .inv .3) (turn .loop .inv .0) (turn .loop .inv .4)
 
 close-sets-requires : tie.Need-close-sets-requires Inv-loop μ-loop
-close-sets-requires c κs = let p = c .before .before .before .before .before .before .before .before .before .before .before .before .before .before .before .before .before .before .before .before .before .before .before .pre in let is = c .before .before .before .before .before .before .before .before .before .before .before .before .before .sets-of .ensures in let range = c .before .before .before .before .before .before .end-of-size .ensures .range in (sets-in (p .0) is (p .4), range, p .5, close-asked (p .0) is (p .4) range (c .before .before .before .before .before .before .before .before .loop .cells) _ (c .before .before .before .before .before .before .before .before .loop .lanes) (p .1) (c .before .before .before .before .before .before .before .before .loop .inv .2 ∙ p .3) (c .before .before .before .before .before .before .before .before .loop .inv .3) (c .before .before .before .before .before .before .before .before .loop .inv .4) (c .before .before .before .before .split-rows .ensures))
+close-sets-requires c κs =
+    let splitted = c .before .before .before .before in
+    let ranged = splitted .before .before in
+    let turn = ranged .before .before in
+    let sized = turn .before .before .before .before .before in
+    let start = sized .before .before .before .before .before .before .before .before .before .before in
+    let p = start .pre in
+    let is = sized .sets-of .ensures in
+    let range = ranged .end-of-size .ensures .range in
+    (sets-in (p .0) is (p .4), range, p .5, close-asked (p .0) is (p .4) range (turn .loop .cells) _ (turn .loop .lanes) (p .1) (turn .loop .inv .2 ∙ p .3) (turn .loop .inv .3) (turn .loop .inv .4) (splitted .split-rows .ensures))
 
 loop-less : tie.Need-loop-less Inv-loop μ-loop
 loop-less c = omega (arith, c .before .before .before .before .before .before .before .before .before .before .before .end-of-size .ensures .rising, c .before .before .before .before .before .before .before .before .before .before .before .before .loop-test .taken)
 
 loop-again : tie.Need-loop-again Inv-loop μ-loop
-loop-again c = let p = c .before .before .before .before .before .before .before .before .before .before .before .before .before .before .before .before .before .before .before .before .before .before .before .before .before .before .before .before .pre in let end = c .before .before .before .before .before .before .before .before .before .before .before .end-of-size .ensures in let l = c .before .before .before .before .before .before .before .before .before .before .before .before .before .loop .inv in let next = fill-next (p .0) (c .before .before .before .before .before .before .before .before .before .before .before .before .before .before .before .before .before .before .sets-of .ensures) (p .4) (end .range) (l .3) (l .4) (c .before .before .before .before .before .before .before .before .before .split-rows .ensures) (c .before .before .before .before .close-sets .ensures) in (omega (arith, end .rising), end .range .bound, c .before .before .before .before .close-sets .kept .1 .1 .1 .1 .1 .1 .1 .1 .1 .1 .1 .1 .0 ∙ l .2, next .0, next .1)
+loop-again c =
+    let closed = c .before .before .before .before in
+    let splitted = closed .before .before .before .before .before in
+    let ranged = splitted .before .before in
+    let turn = ranged .before .before in
+    let sized = turn .before .before .before .before .before in
+    let start = sized .before .before .before .before .before .before .before .before .before .before in
+    let p = start .pre in
+    let end = ranged .end-of-size .ensures in
+    let l = turn .loop .inv in
+    let next = fill-next (p .0) (sized .sets-of .ensures) (p .4) (end .range) (l .3) (l .4) (splitted .split-rows .ensures) (closed .close-sets .ensures) in
+    (omega (arith, end .rising), end .range .bound, closed .close-sets .kept .1 .1 .1 .1 .1 .1 .1 .1 .1 .1 .1 .1 .0 ∙ l .2, next .0, next .1)
 
 finish-requires : tie.Need-finish-requires Inv-loop μ-loop
 finish-requires c κs = search needs
 
 same-length : tie.Need-same-length Inv-loop μ-loop
-same-length c = c .before .before .finish .kept .0 ∙ c .before .before .before .before .before .loop .inv .3 ∙ sym (start-asked (c .before .before .before .before .before .before .before .before .before .before .before .before .before .before .before .before .before .before .before .before .pre .0) (c .before .before .before .before .before .before .before .before .before .before .sets-of .ensures) (now (c .before .before .before .before .before .before .before .before .before .before .before .before .before .before .before .before .before .before .before .before .args .cells)) (c .before .before .before .before .before .before .before .before .before .before .before .before .before .before .before .before .before .before .before .before .pre .2) .2)
+same-length c =
+    let turn = c .before .before .before .before .before in
+    let sized = turn .before .before .before .before .before in
+    let start = sized .before .before .before .before .before .before .before .before .before .before in
+    c .before .before .finish .kept .0 ∙ turn .loop .inv .3 ∙ sym (start-asked (start .pre .0) (sized .sets-of .ensures) (now (start .args .cells)) (start .pre .2) .2)
 
 same-length-2 : tie.Need-same-length-2 Inv-loop μ-loop
 same-length-2 c = c .before .before .before .before .before .loop .inv .2
 
 returns : tie.Need-returns Inv-loop μ-loop
-returns c = fill-end (c .before .before .before .before .before .before .before .before .before .before .before .before .before .before .before .before .before .before .before .before .pre .0) (c .before .before .before .before .before .before .before .before .before .before .sets-of .ensures) (c .before .before .before .before .before .loop .cells) (c .before .before .before .before .before .before .before .before .before .before .before .before .before .before .before .before .before .before .before .before .pre .4) (c .before .before .before .before .loop-test .left) (c .before .before .before .before .before .loop .inv .1) (c .before .before .before .before .before .loop .inv .3) (c .before .before .before .before .before .loop .inv .4) (c .before .before .finish .ensures)
+returns c =
+    let tested = c .before .before .before .before in
+    let turn = tested .before in
+    let sized = turn .before .before .before .before .before in
+    let start = sized .before .before .before .before .before .before .before .before .before .before in
+    fill-end (start .pre .0) (sized .sets-of .ensures) (turn .loop .cells) (start .pre .4) (tested .loop-test .left) (turn .loop .inv .1) (turn .loop .inv .3) (turn .loop .inv .4) (c .before .before .finish .ensures)
 
 pub fill-spec : {M : Type 1} → statement M
 fill-spec =

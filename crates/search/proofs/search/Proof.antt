@@ -43,7 +43,12 @@ slice-aggregate-fill-3 : tie.Need-slice-aggregate-fill-3
 slice-aggregate-fill-3 c = sym (length-take-le _ _ (omega (arith, c .before .before .before .before .before .before .before .before .before .before .before .before .before .before .before .pre .0 .few-nodes)))
 
 fill-requires : tie.Need-fill-requires
-fill-requires c κs = let p = c .before .before .before .before .before .before .before .before .before .before .before .before .before .before .before .pre in fill-asked (p .0) (c .before .before .before .before .before .before .sets-of .ensures) _ (now (c .before .before .before .before .before .before .before .before .before .before .before .before .before .before .before .args .cells)) _ (p .2) (omega (arith, p .0 .few-nodes)) (search needs) (c .before .before .before .before .sets-below .ensures) (p .1)
+fill-requires c κs =
+    let listed = c .before .before .before .before in
+    let sized = listed .before .before in
+    let start = sized .before .before .before .before .before .before .before .before .before in
+    let p = start .pre in
+    fill-asked (p .0) (sized .sets-of .ensures) _ (now (start .args .cells)) _ (p .2) (omega (arith, p .0 .few-nodes)) (search needs) (listed .sets-below .ensures) (p .1)
 
 slice-relend-prefix-mark-all : tie.Need-slice-relend-prefix-mark-all
 slice-relend-prefix-mark-all c = search needs
@@ -61,7 +66,13 @@ same-length-2 : tie.Need-same-length-2
 same-length-2 c = search needs
 
 returns : tie.Need-returns
-returns c = let a = c .before .before .before .before .before .before .before .before .before .before .before .before .before .before .before .before .before .before .before .before .before .before .before .args in let p = c .before .before .before .before .before .before .before .before .before .before .before .before .before .before .before .before .before .before .before .before .before .before .before .pre in (cells-over (p .0) (c .before .before .before .before .before .before .before .before .before .before .before .before .before .before .sets-of .ensures) (now (a .cells)) _ (c .before .before .before .before .before .before .before .fill .ensures), marks-over _ (now (a .marks)) _ (p .3) (c .before .before .mark-all .ensures))
+returns c =
+    let filled = c .before .before .before .before .before .before .before in
+    let sized = filled .before .before .before .before .before .before .before in
+    let start = sized .before .before .before .before .before .before .before .before .before in
+    let a = start .args in
+    let p = start .pre in
+    (cells-over (p .0) (sized .sets-of .ensures) (now (a .cells)) _ (filled .fill .ensures), marks-over _ (now (a .marks)) _ (p .3) (c .before .before .mark-all .ensures))
 
 pub search-spec : {M : Type 1} → statement M
 search-spec =

@@ -60,7 +60,12 @@ loop-less : tie.Need-loop-less Inv-loop μ-loop
 loop-less c = search needs
 
 loop-again : tie.Need-loop-again Inv-loop μ-loop
-loop-again c = (omega (arith, c .before .before .before .before .before .before .before .before .before .before .before .loop .inv .0), passed-next (c .before .before .before .before .before .before .before .before .before .before .before .loop .inv .1) (c .before .before .before .before .before .before .before .before .before .before .before .loop .inv .0) (c .before .before .before .before .before .before .before .before .before .before .loop-test .taken) (along-arc _ _ (c .before .before .before .before .before .before .before .lanes-of .ensures) (c .before .before .before .before .before .along .ensures) refl refl) (c .before .before .lower .ensures))
+loop-again c =
+    let given = c .before .before .before .before .before in
+    let read = given .before .before in
+    let tested = read .before .before .before in
+    let turn = tested .before in
+    (omega (arith, turn .loop .inv .0), passed-next (turn .loop .inv .1) (turn .loop .inv .0) (tested .loop-test .taken) (along-arc _ _ (read .lanes-of .ensures) (given .along .ensures) refl refl) (c .before .before .lower .ensures))
 
 same-length : tie.Need-same-length Inv-loop μ-loop
 same-length c = c .before .loop .inv .1 .lowered .same-length

@@ -31,7 +31,13 @@ lower-from-requires : tie.Need-lower-from-requires Inv-loop μ-loop
 lower-from-requires c κs = still-lanes (c .before .before .before .before .loop .inv) (c .before .before .before .before .before .before .before .before .before .pre)
 
 loop-less : tie.Need-loop-less Inv-loop μ-loop
-loop-less c = let on = is-arc (c .before .before .before .before .before .first-open .ensures) (c .before .before .before .before .if1 .left) in sum-falls (c .before .before .before .before .before .before .before .loop .inv) (c .before .before .before .before .before .first-open .ensures) on (c .before .before .lower-from .ensures) (arc-known (still-lanes (c .before .before .before .before .before .before .before .loop .inv) (c .before .before .before .before .before .before .before .before .before .before .before .before .pre)) on .start-fits)
+loop-less c =
+    let branch = c .before .before .before .before in
+    let opened = branch .before in
+    let turn = opened .before .before in
+    let start = turn .before .before .before .before .before in
+    let on = is-arc (opened .first-open .ensures) (branch .if1 .left) in
+    sum-falls (turn .loop .inv) (opened .first-open .ensures) on (c .before .before .lower-from .ensures) (arc-known (still-lanes (turn .loop .inv) (start .pre)) on .start-fits)
 
 loop-again : tie.Need-loop-again Inv-loop μ-loop
 loop-again c = lowered-more (c .before .before .before .before .before .before .before .loop .inv) (c .before .before .lower-from .ensures .lowered)

@@ -21,7 +21,10 @@ four-from-requires : tie.Need-four-from-requires Inv-loop μ-loop
 four-from-requires c κs = (c .loop-test .taken, omega (arith, c .before .before .before .before .pre .3))
 
 split-four-requires : tie.Need-split-four-requires Inv-loop μ-loop
-split-four-requires c κs = (c .before .before .before .before .before .before .pre .0, c .before .before .before .before .before .before .pre .1, c .before .before .before .before .before .before .pre .2, next-rows (c .before .before .loop-test .taken) (c .before .before .before .before .before .before .pre .5) (c .before .before .before .loop .inv) (c .before .four-from .ensures) (c .before .before .before .before .before .before .pre .4) (c .before .before .before .before .before .before .pre .6))
+split-four-requires c κs =
+    let turn = c .before .before .before in
+    let start = turn .before .before .before in
+    (start .pre .0, start .pre .1, start .pre .2, next-rows (c .before .before .loop-test .taken) (start .pre .5) (turn .loop .inv) (c .before .four-from .ensures) (start .pre .4) (start .pre .6))
 
 add-v : tie.Need-add-v Inv-loop μ-loop
 add-v c = omega (arith, c .before .before .before .before .before .loop-test .taken, c .before .before .before .before .before .before .before .before .before .pre .3)
@@ -30,7 +33,12 @@ loop-less : tie.Need-loop-less Inv-loop μ-loop
 loop-less c = search needs
 
 loop-again : tie.Need-loop-again Inv-loop μ-loop
-loop-again c = to-next (c .before .before .before .before .before .loop-test .taken) (c .before .before .before .before .before .before .before .before .before .pre .5) (c .before .before .before .before .before .before .loop .inv) (c .before .before .before .before .four-from .ensures) (c .before .before .before .before .before .before .before .before .before .pre .0) (c .before .before .before .before .before .before .before .before .before .pre .1) (c .before .before .split-four .ensures)
+loop-again c =
+    let chosen = c .before .before .before .before in
+    let tested = chosen .before in
+    let turn = tested .before in
+    let start = turn .before .before .before in
+    to-next (tested .loop-test .taken) (start .pre .5) (turn .loop .inv) (chosen .four-from .ensures) (start .pre .0) (start .pre .1) (c .before .before .split-four .ensures)
 
 same-length : tie.Need-same-length Inv-loop μ-loop
 same-length c = c .before .loop .inv .same-length

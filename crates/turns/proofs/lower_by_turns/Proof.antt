@@ -21,7 +21,11 @@ slice-aggregate-take-turns-3 : tie.Need-slice-aggregate-take-turns-3
 slice-aggregate-take-turns-3 c = search needs
 
 take-turns-requires-3 : tie.Need-take-turns-requires-3
-take-turns-requires-3 c κs = (search needs, still-some (index-more (c .before .before .before .before .before .before .before .before .before .before .before .take-turns .ensures) (c .before .before .before .before .before .take-turns2 .ensures)) (c .before .before .before .before .before .before .before .before .before .before .before .before .before .before .before .before .before .before .before .pre))
+take-turns-requires-3 c κs =
+    let second = c .before .before .before .before .before in
+    let first = second .before .before .before .before .before .before in
+    let start = first .before .before .before .before .before .before .before .before in
+    (search needs, still-some (index-more (first .take-turns .ensures) (second .take-turns2 .ensures)) (start .pre))
 
 same-length : tie.Need-same-length
 same-length c = search needs

@@ -40,7 +40,12 @@ leave-requires : tie.Need-leave-requires Inv-loop μ-loop
 leave-requires c κs = (c .before .before .before .before .before .loop .inv .0, omega (arith, c .before .if1 .left, c .before .before .before .before .before .before .before .before .before .before .before .before .before .before .before .before .before .before .pre .1 .by-end .few))
 
 visit-requires : tie.Need-visit-requires Inv-loop μ-loop
-visit-requires c κs = (c .before .before .before .before .leave .kept .1 .0 ∙ c .before .before .before .before .before .before .before .before .before .before .loop .inv .0, omega (arith, c .before .before .before .before .before .before .if1 .left), still-some (c .before .before .before .before .before .before .before .before .before .before .loop .inv .1) (c .before .before .before .before .before .before .before .before .before .before .before .before .before .before .before .before .before .before .before .before .before .before .before .pre .1))
+visit-requires c κs =
+    let left = c .before .before .before .before in
+    let branch = left .before .before in
+    let turn = branch .before .before .before .before in
+    let start = turn .before .before .before .before .before .before .before .before .before .before .before .before .before in
+    (left .leave .kept .1 .0 ∙ turn .loop .inv .0, omega (arith, branch .if1 .left), still-some (turn .loop .inv .1) (start .pre .1))
 
 sub-left : tie.Need-sub-left Inv-loop μ-loop
 sub-left c = search needs
@@ -49,7 +54,11 @@ loop-less : tie.Need-loop-less Inv-loop μ-loop
 loop-less c = search needs
 
 loop-again : tie.Need-loop-again Inv-loop μ-loop
-loop-again c = (c .before .before .before .before .visit .kept .1 .1 .1 .1 .1 .1 .1 .1 .0 ∙ c .before .before .before .before .before .before .before .before .before .leave .kept .1 .0 ∙ c .before .before .before .before .before .before .before .before .before .before .before .before .before .before .before .loop .inv .0, index-more (c .before .before .before .before .before .before .before .before .before .before .before .before .before .before .before .loop .inv .1) (c .before .before .before .before .visit .ensures))
+loop-again c =
+    let visited = c .before .before .before .before in
+    let left = visited .before .before .before .before .before in
+    let turn = left .before .before .before .before .before .before in
+    (visited .visit .kept .1 .1 .1 .1 .1 .1 .1 .1 .0 ∙ left .leave .kept .1 .0 ∙ turn .loop .inv .0, index-more (turn .loop .inv .1) (visited .visit .ensures))
 
 same-length-3 : tie.Need-same-length-3 Inv-loop μ-loop
 same-length-3 c = index-length (c .before .loop .inv .1) (c .before .before .before .before .before .before .before .before .before .before .before .before .before .before .pre .1)

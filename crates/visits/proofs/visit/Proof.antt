@@ -42,7 +42,10 @@ cast-first : tie.Need-cast-first Inv-loop μ-loop
 cast-first c = omega (arith, c .shared-slice-known6 .given (c .before .before .before .before .before .before .before .before .before .before .args .v))
 
 next-falling-requires : tie.Need-next-falling-requires Inv-loop μ-loop
-next-falling-requires c κs = (here-low (c .before .before .before .before .before .before .before .before .before .before .before .pre .2) (c .before .before .before .before .before .before .before .before .before .before .before .pre .1) (c .before .before .before .lanes-of .ensures), group-from (c .before .before .before .before .before .before .before .before .before .before .before .pre .2) (c .before .before .before .before .before .before .before .before .before .before .before .pre .1) index-none (omega arith))
+next-falling-requires c κs =
+    let read = c .before .before .before in
+    let start = read .before .before .before .before .before .before .before .before in
+    (here-low (start .pre .2) (start .pre .1) (read .lanes-of .ensures), group-from (start .pre .2) (start .pre .1) index-none (omega arith))
 
 loop-holds : tie.Need-loop-holds Inv-loop μ-loop
 loop-holds c = (c .next-falling .ensures, c .before .before .before .before .before .before .before .before .before .before .before .before .pre .0, index-none)
@@ -60,34 +63,75 @@ mul-start : tie.Need-mul-start Inv-loop μ-loop
 mul-start c = omega (arith, in-group (c .before .before .before .before .before .before .before .before .before .before .before .before .before .before .before .pre .2) (c .before .before .before .before .before .before .before .before .before .before .before .before .before .before .before .pre .1) (c .before .before .loop .inv .2) (c .before .before .loop .inv .0) (c .before .loop-test .taken))
 
 shared-slice-read-start : tie.Need-shared-slice-read-start Inv-loop μ-loop
-shared-slice-read-start c = in-group (c .before .before .before .before .before .before .before .before .before .before .before .before .before .before .before .before .pre .2) (c .before .before .before .before .before .before .before .before .before .before .before .before .before .before .before .before .pre .1) (c .before .before .before .loop .inv .2) (c .before .before .before .loop .inv .0) (c .before .before .loop-test .taken) .starts-on
+shared-slice-read-start c =
+    let turn = c .before .before .before in
+    let start = turn .before .before .before .before .before .before .before .before .before .before .before .before .before in
+    in-group (start .pre .2) (start .pre .1) (turn .loop .inv .2) (turn .loop .inv .0) (c .before .before .loop-test .taken) .starts-on
 
 cast-start : tie.Need-cast-start Inv-loop μ-loop
-cast-start c = omega (arith, in-group (c .before .before .before .before .before .before .before .before .before .before .before .before .before .before .before .before .pre .2) (c .before .before .before .before .before .before .before .before .before .before .before .before .before .before .before .before .pre .1) (c .before .before .before .loop .inv .2) (c .before .before .before .loop .inv .0) (c .before .before .loop-test .taken))
+cast-start c =
+    let turn = c .before .before .before in
+    let start = turn .before .before .before .before .before .before .before .before .before .before .before .before .before in
+    omega (arith, in-group (start .pre .2) (start .pre .1) (turn .loop .inv .2) (turn .loop .inv .0) (c .before .before .loop-test .taken))
 
 mul-along : tie.Need-mul-along Inv-loop μ-loop
-mul-along c = omega (arith, in-group (c .before .before .before .before .before .before .before .before .before .before .before .before .before .before .before .before .pre .2) (c .before .before .before .before .before .before .before .before .before .before .before .before .before .before .before .before .pre .1) (c .before .before .before .loop .inv .2) (c .before .before .before .loop .inv .0) (c .before .before .loop-test .taken))
+mul-along c =
+    let turn = c .before .before .before in
+    let start = turn .before .before .before .before .before .before .before .before .before .before .before .before .before in
+    omega (arith, in-group (start .pre .2) (start .pre .1) (turn .loop .inv .2) (turn .loop .inv .0) (c .before .before .loop-test .taken))
 
 shared-slice-read-along : tie.Need-shared-slice-read-along Inv-loop μ-loop
-shared-slice-read-along c = in-group (c .before .before .before .before .before .before .before .before .before .before .before .before .before .before .before .before .before .pre .2) (c .before .before .before .before .before .before .before .before .before .before .before .before .before .before .before .before .before .pre .1) (c .before .before .before .before .loop .inv .2) (c .before .before .before .before .loop .inv .0) (c .before .before .before .loop-test .taken) .weights-on
+shared-slice-read-along c =
+    let tested = c .before .before .before in
+    let turn = tested .before in
+    let start = turn .before .before .before .before .before .before .before .before .before .before .before .before .before in
+    in-group (start .pre .2) (start .pre .1) (turn .loop .inv .2) (turn .loop .inv .0) (tested .loop-test .taken) .weights-on
 
 along-requires : tie.Need-along-requires Inv-loop μ-loop
-along-requires c κs = (here-low (c .before .before .before .before .before .before .before .before .before .before .before .before .before .before .before .before .before .pre .2) (c .before .before .before .before .before .before .before .before .before .before .before .before .before .before .before .before .before .pre .1) (c .before .before .before .before .before .before .before .before .before .lanes-of .ensures), in-group (c .before .before .before .before .before .before .before .before .before .before .before .before .before .before .before .before .before .pre .2) (c .before .before .before .before .before .before .before .before .before .before .before .before .before .before .before .before .before .pre .1) (c .before .before .before .before .loop .inv .2) (c .before .before .before .before .loop .inv .0) (c .before .before .before .loop-test .taken) .weight-low)
+along-requires c κs =
+    let tested = c .before .before .before in
+    let turn = tested .before in
+    let read = turn .before .before .before .before .before in
+    let start = read .before .before .before .before .before .before .before .before in
+    (here-low (start .pre .2) (start .pre .1) (read .lanes-of .ensures), in-group (start .pre .2) (start .pre .1) (turn .loop .inv .2) (turn .loop .inv .0) (tested .loop-test .taken) .weight-low)
 
 lower-in-turn-requires : tie.Need-lower-in-turn-requires Inv-loop μ-loop
-lower-in-turn-requires c κs = let e = in-group (c .before .before .before .before .before .before .before .before .before .before .before .before .before .before .before .before .before .before .before .before .pre .2) (c .before .before .before .before .before .before .before .before .before .before .before .before .before .before .before .before .before .before .before .before .pre .1) (c .before .before .before .before .before .before .before .loop .inv .2) (c .before .before .before .before .before .before .before .loop .inv .0) (c .before .before .before .before .before .before .loop-test .taken) in (c .before .before .before .before .before .before .before .loop .inv .1, e .start-lt, e .fits)
+lower-in-turn-requires c κs =
+    let tested = c .before .before .before .before .before .before in
+    let turn = tested .before in
+    let start = turn .before .before .before .before .before .before .before .before .before .before .before .before .before in
+    let e = in-group (start .pre .2) (start .pre .1) (turn .loop .inv .2) (turn .loop .inv .0) (tested .loop-test .taken) in
+    (turn .loop .inv .1, e .start-lt, e .fits)
 
 add-next-falling : tie.Need-add-next-falling Inv-loop μ-loop
-add-next-falling c = omega (arith, c .before .before .before .before .before .before .before .before .before .before .before .loop-test .taken, c .before .before .before .before .before .before .before .before .before .before .before .before .before .before .before .before .shared-slice-known5 .given (c .before .before .before .before .before .before .before .before .before .before .before .before .before .before .before .before .before .before .before .before .before .before .before .before .before .args .v + 1))
+add-next-falling c =
+    let tested = c .before .before .before .before .before .before .before .before .before .before .before in
+    let placed = tested .before .before .before .before .before in
+    let start = placed .before .before .before .before .before .before .before .before .before in
+    omega (arith, tested .loop-test .taken, placed .shared-slice-known5 .given (start .args .v + 1))
 
 next-falling-requires-2 : tie.Need-next-falling-requires-2 Inv-loop μ-loop
-next-falling-requires-2 c κs = (here-low (c .before .before .before .before .before .before .before .before .before .before .before .before .before .before .before .before .before .before .before .before .before .before .before .before .before .before .pre .2) (c .before .before .before .before .before .before .before .before .before .before .before .before .before .before .before .before .before .before .before .before .before .before .before .before .before .before .pre .1) (c .before .before .before .before .before .before .before .before .before .before .before .before .before .before .before .before .before .before .lanes-of .ensures), group-from (c .before .before .before .before .before .before .before .before .before .before .before .before .before .before .before .before .before .before .before .before .before .before .before .before .before .before .pre .2) (c .before .before .before .before .before .before .before .before .before .before .before .before .before .before .before .before .before .before .before .before .before .before .before .before .before .before .pre .1) (group-arc (c .before .before .before .before .before .before .before .before .before .before .before .before .before .loop .inv .2) (c .before .before .before .before .before .before .before .before .before .before .before .before .before .before .before .before .before .before .before .before .before .before .before .before .before .before .pre .1) (c .before .before .before .before .before .before .before .before .before .before .before .before .before .loop .inv .0) (c .before .before .before .before .before .before .before .before .before .before .before .before .loop-test .taken) (c .before .before .before .before .before .before .before .before .before .before .before .before .before .before .before .before .before .before .lanes-of .ensures) (c .before .before .before .before .before .before .before .before .along .ensures) (c .before .before .before .before .before .lower-in-turn .ensures)) (omega (arith, c .before .before .before .before .before .before .before .before .before .before .before .before .before .loop .inv .0)))
+next-falling-requires-2 c κs =
+    let lowered = c .before .before .before .before .before in
+    let given = lowered .before .before .before in
+    let tested = given .before .before .before .before in
+    let turn = tested .before in
+    let read = turn .before .before .before .before .before in
+    let start = read .before .before .before .before .before .before .before .before in
+    (here-low (start .pre .2) (start .pre .1) (read .lanes-of .ensures), group-from (start .pre .2) (start .pre .1) (group-arc (turn .loop .inv .2) (start .pre .1) (turn .loop .inv .0) (tested .loop-test .taken) (read .lanes-of .ensures) (given .along .ensures) (lowered .lower-in-turn .ensures)) (omega (arith, turn .loop .inv .0)))
 
 loop-less : tie.Need-loop-less Inv-loop μ-loop
 loop-less c = omega (arith, c .next-falling2 .ensures, c .before .before .before .before .before .before .before .before .before .before .before .before .before .loop-test .taken)
 
 loop-again : tie.Need-loop-again Inv-loop μ-loop
-loop-again c = (omega (arith, c .next-falling2 .ensures, c .before .before .before .before .before .before .before .before .before .before .before .before .before .before .loop .inv .0), c .before .before .before .before .before .before .lower-in-turn .kept .1 .1 .1 .1 .0 ∙ c .before .before .before .before .before .before .before .before .before .before .before .before .before .before .loop .inv .1, group-arc (c .before .before .before .before .before .before .before .before .before .before .before .before .before .before .loop .inv .2) (c .before .before .before .before .before .before .before .before .before .before .before .before .before .before .before .before .before .before .before .before .before .before .before .before .before .before .before .pre .1) (c .before .before .before .before .before .before .before .before .before .before .before .before .before .before .loop .inv .0) (c .before .before .before .before .before .before .before .before .before .before .before .before .before .loop-test .taken) (c .before .before .before .before .before .before .before .before .before .before .before .before .before .before .before .before .before .before .before .lanes-of .ensures) (c .before .before .before .before .before .before .before .before .before .along .ensures) (c .before .before .before .before .before .before .lower-in-turn .ensures))
+loop-again c =
+    let lowered = c .before .before .before .before .before .before in
+    let given = lowered .before .before .before in
+    let tested = given .before .before .before .before in
+    let turn = tested .before in
+    let read = turn .before .before .before .before .before in
+    let start = read .before .before .before .before .before .before .before .before in
+    (omega (arith, c .next-falling2 .ensures, turn .loop .inv .0), lowered .lower-in-turn .kept .1 .1 .1 .1 .0 ∙ turn .loop .inv .1, group-arc (turn .loop .inv .2) (start .pre .1) (turn .loop .inv .0) (tested .loop-test .taken) (read .lanes-of .ensures) (given .along .ensures) (lowered .lower-in-turn .ensures))
 
 same-length : tie.Need-same-length Inv-loop μ-loop
 same-length c = index-length (c .before .loop .inv .2) (c .before .before .before .before .before .before .before .before .before .before .before .before .before .before .pre .2)
