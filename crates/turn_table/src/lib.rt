@@ -88,7 +88,7 @@ pub fn next_site(turns: &[u64]) -> usize
 }
 
 // The least of four costs.
-pub fn least_of(four: Four) -> Cost {
+fn least_of(four: Four) -> Cost {
     lesser(lesser(four.a, four.b), lesser(four.c, four.d))
 }
 
@@ -101,13 +101,38 @@ fn finite_or(cost: Cost, other: Cost) -> Cost {
 }
 
 // The sum of four costs; for one that is "none" or more, the least of them counts.
-pub fn cost_sum(four: Four) -> u64
+fn cost_sum(four: Four) -> u64
     ensures { λ r. ⌜ r < keyLimit ⌝ }
 {
     let least = least_of(four);
     let low = (finite_or(four.a, least) as u64) + (finite_or(four.b, least) as u64);
     let high = (finite_or(four.c, least) as u64) + (finite_or(four.d, least) as u64);
     low + high
+}
+
+// What a cell falls to, or "none" where it does not fall.
+fn fallen(new: Cost, old: Cost) -> Cost {
+    if new < old {
+        return new;
+    }
+    WORKING_NONE
+}
+
+// By which key a site has a turn that had the cells `old` and is given `by`: by the sum of what it is given, and in the last round by the least to which
+// a cell falls.
+pub fn turn_key(round: u8, by: Four, old: Four) -> u64
+    ensures { λ r. ⌜ r < keyLimit ⌝ }
+{
+    if round < LAST_ROUND {
+        return cost_sum(by);
+    }
+    let least = least_of(Four {
+        a: fallen(by.a, old.a),
+        b: fallen(by.b, old.b),
+        c: fallen(by.c, old.c),
+        d: fallen(by.d, old.d),
+    });
+    least as u64
 }
 
 // Site v, which has these cells, has a turn by their sum, where one of them is finite.

@@ -5,44 +5,16 @@ use limits::Cost;
 use settling::along;
 use settling::falls;
 use settling::lower;
-use turn_table::LAST_ROUND;
-use turn_table::cost_sum;
 use turn_table::enter;
-use turn_table::least_of;
-use working_none::WORKING_NONE;
+use turn_table::turn_key;
 ghost use mathlib.Core.Path.{_≡_};
 ghost use Prim.Native.Nat.{_+_, _*_, _<_, _≤_};
 ghost use lib.ListN.{length};
 ghost use Rattle.limits.specs.Limits.{maxNodes};
 ghost use Rattle.settling.specs.laws.LowerFour.{LoweredAt};
-ghost use Rattle.turn_table.specs.laws.Entries.{turnEntries, keyLimit};
+ghost use Rattle.turn_table.specs.laws.Entries.{turnEntries};
 ghost use Rattle.lanes.specs.laws.Four.{FourLow};
 ghost use Rattle.visits.specs.laws.ByIndex.{SomeArcs, Entries, LoweredByIndex};
-
-// What a cell falls to, or "none" where it does not fall.
-fn fallen(new: Cost, old: Cost) -> Cost {
-    if new < old {
-        return new;
-    }
-    WORKING_NONE
-}
-
-// By which key a site has a turn that had the cells `old` and is given `by`: by the sum of what it is given, and in the last round by the least to which
-// a cell falls.
-fn turn_key(round: u8, by: Four, old: Four) -> u64
-    ensures { λ r. ⌜ r < keyLimit ⌝ }
-{
-    if round < LAST_ROUND {
-        return cost_sum(by);
-    }
-    let least = least_of(Four {
-        a: fallen(by.a, old.a),
-        b: fallen(by.b, old.b),
-        c: fallen(by.c, old.c),
-        d: fallen(by.d, old.d),
-    });
-    least as u64
-}
 
 // Each cell of site u that is above what a leg gives falls to it, and the site has a turn.
 fn lower_in_turn(round: u8, u: usize, by: Four, lanes: &mut [Cost], turns: &mut [u64])
