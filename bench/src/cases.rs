@@ -18,6 +18,8 @@ pub fn cases() -> Vec<Case> {
     let mut cases = random_cases();
     cases.extend(grid_cases());
     cases.extend(chain_cases());
+    let whole = long_chain(8192, Order::Falling, true);
+    cases.push(plan_case("chain, stations at both ends", whole));
     cases.push(plan_case("row behind a gate", gated_row(12, false)));
     cases.push(plan_case("the same, dear ways", gated_row(12, true)));
     cases.extend(reading_cases());
