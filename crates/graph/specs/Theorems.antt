@@ -45,6 +45,7 @@ use Rattle.graph.specs.laws.SameCells.{same-layout as layouts-agree, sam
 use Rattle.graph.specs.laws.Lowering.{unfilled-supported, lower-supported, lower-capped, sum-falls}
 use Rattle.graph.specs.laws.Settling.{splits-start, started-lower, arcs-close, closed-kept}
 use Rattle.graph.specs.laws.Finite.{cell-finite, full-finite, full-none}
+use Rattle.graph.specs.laws.FiniteParts.{all-parts-finite}
 use Rattle.graph.specs.laws.Roots.{root-facts, cheapest-first, no-root, root-lower}
 use Rattle.graph.specs.laws.UniquePaths.{subtree-one-path, one-path-subtree, subtree-distinct, subtree-no-loop, touched-held}
 
@@ -260,14 +261,22 @@ pub lowering-falls : (c : ℕ → ℕ → ℕ) (v w x n : ℕ) → v < n → x <
 lowering-falls = sum-falls
 
 -- A set is started by trying each landing, and each split into two parts with finite cells by its smaller number, where no cell of the set is
--- above `top` and no cell of a part is below the charge of its node. It stays started while its cells fall and those of its proper parts
--- stay.
+-- above `top` and no cell of a part is below the charge of its node.
 pub tries-start-set : (G : Graph) (c : ℕ → ℕ → ℕ) (top w : ℕ)
     → ((v i : ℕ) → v < G .nodes → i < G .terminals → w ≡ single i → Landing G i v → c v w ≤ G .charge v)
     → ((v y : ℕ) → v < G .nodes → Part y w → y ≢ 0 → y < w - y → c v y < top → c v (w - y) < top → c v w + G .charge v ≤ c v y + c v (w - y))
     → ((v : ℕ) → v < G .nodes → c v w ≤ top) → ((v y : ℕ) → v < G .nodes → y ≢ 0 → Part y w → G .charge v ≤ c v y) → StartedSet G c w
 tries-start-set = splits-start
 
+-- Where the proper parts of a set are closed, and a node has a split of it into two parts with finite cells, all proper parts that are not
+-- empty have finite cells there. So one split tells whether any needs to be tried.
+pub parts-finite-alike : (G : Graph) → Sound G → (c : ℕ → ℕ → ℕ) (top : ℕ) → Room G top → Supported G c top
+    → (w : ℕ) → w < 2 ^ G .terminals → ((y : ℕ) → Part y w → y ≢ 0 → y ≢ w → ClosedSet G c y)
+    → (v y : ℕ) → v < G .nodes → Part y w → y ≢ 0 → y ≢ w → c v y < top → c v (w - y) < top
+    → (z : ℕ) → Part z w → z ≢ 0 → z ≢ w → c v z < top
+parts-finite-alike = all-parts-finite
+
+-- a started set stays started while its cells fall and those of its proper parts stay
 pub lowering-keeps-started : (G : Graph) (c d : ℕ → ℕ → ℕ) (w : ℕ) → ((v y : ℕ) → v < G .nodes → Part y w → y ≢ w → d v y ≡ c v y)
     → ((v : ℕ) → v < G .nodes → d v w ≤ c v w) → StartedSet G c w → StartedSet G d w
 lowering-keeps-started = started-lower

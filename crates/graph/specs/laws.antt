@@ -28,6 +28,8 @@ pub mod Settling
 -- of the tables without a cell above `top`, the cost table is the one that is closed and supported
 pub mod Offers
 pub mod CostTable
+-- the finite cells of the parts of a set
+pub mod FiniteParts
 -- the layout
 pub mod LayoutRule
 pub mod LayoutTotal

@@ -15,10 +15,10 @@ use Rattle.graph.specs.Graph.{Graph, Sound, Landing}
 use Rattle.graph.specs.ClosedSupported.{StartedSet, ClosedSet}
 
 -- the two sets of a split are parts of the set
-part-left : (y z w : ℕ) → bitAnd y z ≡ 0 → y + z ≡ w → Part y w
+pub part-left : (y z w : ℕ) → bitAnd y z ≡ 0 → y + z ≡ w → Part y w
 part-left y z w d q = subst (Part y) q (part-sum y z d)
 
-part-right : (y z w : ℕ) → bitAnd y z ≡ 0 → y + z ≡ w → Part z w
+pub part-right : (y z w : ℕ) → bitAnd y z ≡ 0 → y + z ≡ w → Part z w
 part-right y z w d q = subst (Part z) q (part-sum-right y z d)
 
 -- ---- before the arcs
