@@ -18,14 +18,13 @@ use Rattle.lists.specs.Find.{first}
 use Rattle.lists.specs.Listed.{listed, every-listed, Distinct}
 use Rattle.lists.specs.Sums.{same-count, sumTo}
 use Rattle.subset.specs.Sets.{full, single, Part}
-use Rattle.subset.specs.laws.Parts.{part-le, full-every, full-ne}
-use Rattle.subset.specs.laws.Sequences.{earlier-part}
+use Rattle.subset.specs.laws.Parts.{full-every, full-ne}
 use Rattle.graph.specs.Graph.{Graph, Sound, Landing}
 use Rattle.graph.specs.Paths.{DirectedPath, Reaches, ReachesAll, reachedIn, isReached, reachedNodes, Touched, OnePath}
 use Rattle.graph.specs.Subtrees.{Subtree, held, Covers, CoversAll, total, isTree, isSubtree, isCovering}
 use Rattle.graph.specs.LeastTotals.{leastTotal, leastCell, NoSubtree, Least, IsLeastTotal, IsCostTable, Room}
 use Rattle.graph.specs.Growth.{firstExtending, keptThen, growIn, grow, kept}
-use Rattle.graph.specs.ClosedSupported.{Closed, Support, Supported, Capped, StartedSet, ClosedSet, put}
+use Rattle.graph.specs.ClosedSupported.{Closed, Supported, Capped, StartedSet, ClosedSet}
 use Rattle.graph.specs.Layout.{isDone, fits, splits, followIn, layoutIn, layout, rootOf, LowestCheapest}
 use Rattle.graph.specs.laws.Holding.{held-reached, reached-held}
 use Rattle.graph.specs.laws.SubtreeParts.{start-reached}
@@ -42,7 +41,6 @@ use Rattle.graph.specs.laws.CostTable.{both-cost-table, cost-table-cappe
 use Rattle.graph.specs.laws.LayoutRule.{arc-falls, follow-enough, layout-enough, layout-nothing, layout-arc, layout-split}
 use Rattle.graph.specs.laws.LayoutTotal.{layout-subtree, step-passes, arc-found, part-found, split-measure}
 use Rattle.graph.specs.laws.SameCells.{same-layout as layouts-agree, same-root as roots-agree}
-use Rattle.graph.specs.laws.Lowering.{unfilled-supported, lower-supported, lower-capped, sum-falls}
 use Rattle.graph.specs.laws.Settling.{splits-start, started-lower, arcs-close, closed-kept}
 use Rattle.graph.specs.laws.Finite.{cell-finite, full-finite, full-none}
 use Rattle.graph.specs.laws.FiniteParts.{all-parts-finite}
@@ -243,23 +241,6 @@ same-layout G sound c d top same = layouts-agree G c d same sound top
 
 -- ==== 5. What a search needs
 
--- a table in which only the empty set has finite cells is supported
-pub unfilled-is-supported : (G : Graph) (c : ℕ → ℕ → ℕ) (top : ℕ) → ((v w : ℕ) → v < G .nodes → w ≢ 0 → w < 2 ^ G .terminals → top ≤ c v w)
-    → Supported G c top
-unfilled-is-supported = unfilled-supported
-
--- lowering a cell to no less than what a landing, an arc or a split gives keeps the table supported
-pub lowering-keeps-supported : (G : Graph) (c : ℕ → ℕ → ℕ) (top v w x : ℕ) → x ≤ c v w → Support G c top v w x
-    → Supported G c top → Supported G (put c v w x) top
-lowering-keeps-supported = lower-supported
-
--- it keeps the cells at `top` or below, and the sum of the set's cells over the nodes falls, so that lowering comes to an end
-pub lowering-keeps-capped : (G : Graph) (c : ℕ → ℕ → ℕ) (top v w x : ℕ) → x ≤ c v w → Capped G c top → Capped G (put c v w x) top
-lowering-keeps-capped = lower-capped
-
-pub lowering-falls : (c : ℕ → ℕ → ℕ) (v w x n : ℕ) → v < n → x < c v w → sumTo n (λ u. put c v w x u w) < sumTo n (λ u. c u w)
-lowering-falls = sum-falls
-
 -- A set is started by trying each landing, and each split into two parts with finite cells by its smaller number, where no cell of the set is
 -- above `top` and no cell of a part is below the charge of its node.
 pub tries-start-set : (G : Graph) (c : ℕ → ℕ → ℕ) (top w : ℕ)
@@ -291,16 +272,6 @@ pass-closes-set = arcs-close
 pub others-keep-closed : (G : Graph) → Sound G → (c d : ℕ → ℕ → ℕ) (w : ℕ) → ((v y : ℕ) → v < G .nodes → Part y w → d v y ≡ c v y)
     → ClosedSet G c w → ClosedSet G d w
 others-keep-closed = closed-kept
-
--- "no size precedes a smaller one": where each set occurs and sizes never fall, the parts of a set are finished before it is taken, entries
--- of 2^k or more being passed over
-pub parts-finished : (k m : ℕ) (at : ℕ → ℕ) (Finished : ℕ → Type 0)
-    → ((i j : ℕ) → i ≤ j → j < m → ones (at i) ≤ ones (at j)) → ((w : ℕ) → w < 2 ^ k → (i : ℕ) × (i < m) × (at i ≡ w))
-    → (j : ℕ) → j < m → at j < 2 ^ k → ((i : ℕ) → i < j → at i < 2 ^ k → Finished (at i)) → (y : ℕ) → Part y (at j) → y ≢ at j → Finished y
-parts-finished k m at Finished rise occurs j l small done y part ne =
-    let le = part-le y (at j) part in
-    let (i, before, e) = earlier-part at m j y rise (occurs y (omega arith)) l part (omega arith) in
-    subst Finished e (done i before (omega arith))
 
 -- Where the empty set costs 0 and every other set is closed, the table is closed by definition, and theorem 2 says that it is the cost table.
 

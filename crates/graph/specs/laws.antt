@@ -22,7 +22,7 @@ pub mod Charged
 pub mod LowerBound
 -- supported tables: the upper bound
 pub mod UpperBound
--- a table as a search changes it: one cell lowered, one set closed
+-- a table of which cells change, and one that is filled set by set
 pub mod Lowering
 pub mod Settling
 -- of the tables without a cell above `top`, the cost table is the one that is closed and supported

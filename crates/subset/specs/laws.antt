@@ -1,6 +1,5 @@
--- sets told station by station, parts and sizes, and sequences of sets
+-- sets told station by station, parts and sizes, and parts in falling order
 pub mod Terminals
 pub mod Parts
 pub mod Sizes
 pub mod Falling
-pub mod Sequences
