@@ -21,10 +21,10 @@ ghost use Rattle.cost_table.specs.Cells.{costTable};
 ghost use Rattle.order_ranges.specs.laws.Ranges.{Ordered, entryOf};
 ghost use Rattle.search.specs.Searchable.{Searchable};
 
-// Four cells for each of the most sites.
+// Four cells for each of the most sites, and for each of the most sets.
 const MAX_LANES: usize = 4 * limits::MAX_NODES as usize;
 
-// The cells of all sites and sets. `sets` has the sets in their order, `lanes` four entries for each site.
+// The cells of all sites and sets. `sets` has the sets in their order, `lanes` four entries for each site and for each set.
 fn fill(
     starts: &[u16],
     ends: &[u16],
@@ -41,16 +41,17 @@ fn fill(
 )
     requires { ⌜ (let t = sheetTables (now starts) (now ends) (now weights) (now landings) in
         (Searchable n k arcs t × Indexed n arcs (graphIn n k arcs t .end) (now index) (now places) × (length (now cells) ≡ n * 2 ^ k)
-        × (length (now lanes) ≡ n * 4) × Ordered (entryOf (now sets)) (length (now sets)) (2 ^ k) × (length (now sets) ≤ maxSubsets))) ⌝ }
+        × (n * 4 ≤ length (now lanes)) × (2 ^ k * 4 ≤ length (now lanes)) × Ordered (entryOf (now sets)) (length (now sets)) (2 ^ k) × (length (now sets) ≤ maxSubsets))) ⌝ }
     ensures { λ _. ⌜ (let t = sheetTables (now (starts .entry)) (now (ends .entry)) (now (weights .entry)) (now (landings .entry)) in
         (now (cells .exit) ≡ costTable (graphIn n k arcs t) noCost)) ⌝ }
 {
     let size = sets_of(k);
+    let wide = n * 4;
     start_rows(landings, n, size, cells);
     let mut first: usize = 1;
     while first < sets.len() {
         let last = end_of_size(sets, first);
-        split_rows(sets, n, size, first, last, cells);
+        split_rows(sets, n, size, first, last, cells, lanes);
         close_sets(
             sets,
             starts,
@@ -64,7 +65,7 @@ fn fill(
             first,
             last,
             cells,
-            lanes,
+            &mut lanes[..wide],
         );
         first = last;
     }
@@ -106,7 +107,6 @@ pub fn search(
     let nodes = n as usize;
     let size = sets_of(k);
     let total = nodes * size;
-    let wide = nodes * 4;
     let mut sets = [0u16; POSITIONS];
     let count = sets_below(size, &mut sets);
     let mut lanes = [0 as Cost; MAX_LANES];
@@ -122,7 +122,7 @@ pub fn search(
         k,
         arcs as usize,
         &mut cells[..total],
-        &mut lanes[..wide],
+        &mut lanes,
     );
     mark_all(&mut marks[..nodes]);
 }

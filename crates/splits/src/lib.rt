@@ -2,8 +2,11 @@
 use lanes::Four;
 use lanes::FourNumbers;
 use lanes::four_from;
+use lanes::lanes_of;
 use lanes::lesser_of;
+use lanes::set_lanes;
 use limits::Cost;
+use working_none::WORKING_NONE;
 ghost use mathlib.Core.Path.{_≡_};
 ghost use Prim.Native.Nat.{_+_, _*_, _<_, _≤_};
 ghost use lib.ListN.{length};
@@ -12,7 +15,7 @@ ghost use Rattle.order_ranges.specs.laws.Ranges.{Ordered, OneSize, entryOf};
 ghost use Rattle.working_none.specs.laws.Low.{AllLow};
 ghost use Rattle.lanes.specs.laws.Four.{nth, nthNumber, FourLow};
 ghost use Rattle.lanes.specs.laws.WriteFour.{writeRows};
-ghost use Rattle.splits.specs.laws.FourRows.{sumFour, rowsAt, listOf, costsIn, FourLists, cellsAt, Rows, IsRow};
+ghost use Rattle.splits.specs.laws.FourRows.{sumFour, rowsAt, cellsAt, Rows, RowsTaken, setCosts, FourCosts, bothFinite};
 ghost use Rattle.splits.specs.laws.BestSplit.{BestSplits};
 ghost use Rattle.splits.specs.laws.SplitRows.{FourSplit, SplitTo};
 
@@ -29,20 +32,21 @@ fn sum_of(x: Four, y: Four) -> Four
     }
 }
 
-// The cells of four sites and the set w; each site has a slice of its own.
-fn read_rows(first: &[Cost], second: &[Cost], third: &[Cost], fourth: &[Cost], w: usize) -> Four
-    requires { ⌜ (w < length (now first)) × (w < length (now second)) × (w < length (now third)) × (w < length (now fourth)) ⌝ }
-    ensures { λ r. ⌜ r ≡ rowsAt (costsIn (listOf (now (first .entry)) (now (second .entry)) (now (third .entry)) (now (fourth .entry)))) w ⌝ }
+// The cells of four sites and the set w, in a table with so many cells for each site.
+fn read_rows(cells: &[Cost], size: usize, rows: FourNumbers, w: usize) -> Four
+    requires { ⌜ (rows .a * size + w < length (now cells)) × (rows .b * size + w < length (now cells))
+        × (rows .c * size + w < length (now cells)) × (rows .d * size + w < length (now cells)) ⌝ }
+    ensures { λ r. ⌜ r ≡ rowsAt (cellsAt (now (cells .entry)) size (nthNumber rows)) w ⌝ }
 {
     Four {
-        a: first[w],
-        b: second[w],
-        c: third[w],
-        d: fourth[w],
+        a: cells[rows.a * size + w],
+        b: cells[rows.b * size + w],
+        c: cells[rows.c * size + w],
+        d: cells[rows.d * size + w],
     }
 }
 
-// Those of four sites in a table are written; where two of the sites are one, the later value counts.
+// They are written; where two of the sites are one, the later value counts.
 fn write_rows(cells: &mut [Cost], size: usize, rows: FourNumbers, w: usize, four: Four)
     requires { ⌜ (rows .a * size + w < length (now cells)) × (rows .b * size + w < length (now cells))
         × (rows .c * size + w < length (now cells)) × (rows .d * size + w < length (now cells)) ⌝ }
@@ -54,49 +58,49 @@ fn write_rows(cells: &mut [Cost], size: usize, rows: FourNumbers, w: usize, four
     cells[rows.d * size + w] = four.d;
 }
 
-// Of each of four sites, the least of the cell of the set w and of its splits into two parts, by their greater part.
-fn best_splits(first: &[Cost], second: &[Cost], third: &[Cost], fourth: &[Cost], w: usize) -> Four
-    requires { ⌜ FourLists (listOf (now first) (now second) (now third) (now fourth)) w × (0 < w) ⌝ }
-    ensures { λ r. ⌜ BestSplits (costsIn (listOf (now (first .entry)) (now (second .entry)) (now (third .entry)) (now (fourth .entry)))) w r ⌝ }
+// The cells of four sites, set by set: four for each set.
+fn take_rows(cells: &[Cost], size: usize, rows: FourNumbers, by_set: &mut [Cost])
+    requires { ⌜ Rows (now cells) size (nthNumber rows) × (size * 4 ≤ length (now «by_set»)) ⌝ }
+    ensures { λ _. ⌜ RowsTaken (now (cells .entry)) size (nthNumber rows) size (now («by_set» .entry)) (now («by_set» .exit)) ⌝ }
 {
-    let mut best = read_rows(first, second, third, fourth, w);
+    let mut w = 0;
+    while w < size {
+        set_lanes(by_set, w, read_rows(cells, size, rows, w));
+        w += 1;
+    }
+}
+
+// Whether at one of four sites both costs are finite.
+fn both_finite(x: Four, y: Four) -> bool
+    ensures { λ r. ⌜ r ≡ bothFinite x y ⌝ }
+{
+    ((x.a < WORKING_NONE) & (y.a < WORKING_NONE))
+        | ((x.b < WORKING_NONE) & (y.b < WORKING_NONE))
+        | ((x.c < WORKING_NONE) & (y.c < WORKING_NONE))
+        | ((x.d < WORKING_NONE) & (y.d < WORKING_NONE))
+}
+
+// Of each of four sites, the least of the cell of the set w and of its splits into two parts, by their greater part. Where the first split has at each
+// site a part that is "none", so has every other one, and they are not tried.
+fn best_splits(by_set: &[Cost], w: usize) -> Four
+    requires { ⌜ FourCosts (now «by_set») w × (0 < w) ⌝ }
+    ensures { λ r. ⌜ BestSplits (setCosts (now («by_set» .entry))) w r ⌝ }
+{
+    let mut best = lanes_of(by_set, w);
     let mut y = (w - 1) & w;
+    if !both_finite(lanes_of(by_set, y), lanes_of(by_set, w - y)) {
+        return best;
+    }
     while w < y + y {
-        let sums = sum_of(
-            read_rows(first, second, third, fourth, y),
-            read_rows(first, second, third, fourth, w - y),
-        );
+        let sums = sum_of(lanes_of(by_set, y), lanes_of(by_set, w - y));
         best = lesser_of(sums, best);
         y = (y - 1) & w;
     }
     best
 }
 
-// The cells of site v, in a table with so many cells for each site.
-fn row_of(cells: &[Cost], size: usize, v: usize) -> &[Cost]
-    requires { ⌜ v * size + size ≤ length (now cells) ⌝ }
-    ensures { λ r. ⌜ IsRow (now (cells .entry)) size v (now r) ⌝ }
-{
-    let from = v * size;
-    let to = from + size;
-    &cells[from..to]
-}
-
-// The same least ones for four sites of a table.
-fn best_at(cells: &[Cost], size: usize, rows: FourNumbers, w: usize) -> Four
-    requires { ⌜ Rows (now cells) size (nthNumber rows) × (0 < w) × (w < size) ⌝ }
-    ensures { λ r. ⌜ BestSplits (cellsAt (now (cells .entry)) size (nthNumber rows)) w r ⌝ }
-{
-    best_splits(
-        row_of(cells, size, rows.a),
-        row_of(cells, size, rows.b),
-        row_of(cells, size, rows.c),
-        row_of(cells, size, rows.d),
-        w,
-    )
-}
-
-// Each set at the positions from `first` up to `last` of the order, which have one size: its cells at four sites become these least ones.
+// Each set at the positions from `first` up to `last` of the order, which have one size: its cells at four sites become these least ones. There are
+// four entries for each set in `by_set`.
 fn split_four(
     sets: &[u16],
     size: usize,
@@ -104,20 +108,22 @@ fn split_four(
     first: usize,
     last: usize,
     cells: &mut [Cost],
+    by_set: &mut [Cost],
 )
     requires { ⌜ Ordered (entryOf (now sets)) (length (now sets)) size × OneSize (entryOf (now sets)) (length (now sets)) first last
-        × (0 < first) × Rows (now cells) size (nthNumber rows) ⌝ }
+        × (0 < first) × Rows (now cells) size (nthNumber rows) × (size * 4 ≤ length (now «by_set»)) ⌝ }
     ensures { λ _. ⌜ FourSplit (entryOf (now (sets .entry))) first last size (nthNumber rows) (now (cells .entry)) (now (cells .exit)) ⌝ }
 {
+    take_rows(cells, size, rows, by_set);
     let mut position = first;
     while position < last {
         let w = sets[position] as usize;
-        write_rows(cells, size, rows, w, best_at(cells, size, rows, w));
+        write_rows(cells, size, rows, w, best_splits(by_set, w));
         position += 1;
     }
 }
 
-// The splits of the sets of one size at all sites.
+// The splits of the sets of one size at all sites. There are four entries for each set in `by_set`.
 pub fn split_rows(
     sets: &[u16],
     n: usize,
@@ -125,14 +131,16 @@ pub fn split_rows(
     first: usize,
     last: usize,
     cells: &mut [Cost],
+    by_set: &mut [Cost],
 )
     requires { ⌜ Ordered (entryOf (now sets)) (length (now sets)) size × OneSize (entryOf (now sets)) (length (now sets)) first last
-        × (0 < first) × (n ≤ maxNodes) × (size ≤ maxSubsets) × (length (now cells) ≡ n * size) × AllLow (now cells) ⌝ }
+        × (0 < first) × (n ≤ maxNodes) × (size ≤ maxSubsets) × (length (now cells) ≡ n * size) × AllLow (now cells)
+        × (size * 4 ≤ length (now «by_set»)) ⌝ }
     ensures { λ _. ⌜ SplitTo (entryOf (now (sets .entry))) first last n size n (now (cells .entry)) (now (cells .exit)) ⌝ }
 {
     let mut v: usize = 0;
     while v < n {
-        split_four(sets, size, four_from(v, n), first, last, cells);
+        split_four(sets, size, four_from(v, n), first, last, cells, by_set);
         v += 4;
     }
 }

@@ -9,46 +9,50 @@ use lib.ListN.{length}
 use Rattle.cost_table.specs.Cells.{cellIn}
 use Rattle.cost_table.specs.laws.Rows.{row-fits}
 use Rattle.lanes.specs.declared.Four.{Four}
-use Rattle.lanes.specs.laws.Four.{nth, fourAt, fourOf, below-four}
+use Rattle.lanes.specs.laws.Four.{nth, fourOf, below-four}
 use Rattle.lanes.specs.laws.WriteFour.{writeFour, putFour, four-length, four-node, four-other}
 
 -- ---- taken
 
--- the first v nodes have the cells of the sets w 0 to w 3
-pub record ColumnsTaken (size : ℕ) (w : ℕ → ℕ) (cells : List ℕ) (v : ℕ) (before after : List ℕ) : Type 0 where
-  pub same-length : length after ≡ length before
-  pub taken : (u j : ℕ) → u < v → j < 4 → cellIn after 4 u j ≡ cellIn cells size u (w j)
+-- four values with the number v
+abbrev pub fourBy : (ℕ → ℕ → ℕ) → ℕ → Four
+fourBy x v = record { a = x v 0; b = x v 1; c = x v 2; d = x v 3 }
 
-module _ {size : ℕ} {w : ℕ → ℕ} {cells before : List ℕ} where
-  pub take-none : ColumnsTaken size w cells 0 before before
+-- the first v times four entries are x 0 0 to x 0 3, and so on
+pub record Taken (x : ℕ → ℕ → ℕ) (v : ℕ) (before after : List ℕ) : Type 0 where
+  pub same-length : length after ≡ length before
+  pub taken : (u j : ℕ) → u < v → j < 4 → cellIn after 4 u j ≡ x u j
+
+-- the first v nodes have the cells of the sets w 0 to w 3
+abbrev pub ColumnsTaken : (size : ℕ) → (w : ℕ → ℕ) → (cells : List ℕ) → (v : ℕ) → (before after : List ℕ) → Type 0
+ColumnsTaken size w cells v before after = Taken (λ u j. cellIn cells size u (w j)) v before after
+
+module _ {x : ℕ → ℕ → ℕ} {before : List ℕ} where
+  pub take-none : Taken x 0 before before
   take-none = record { same-length = refl; taken = λ u j l s. absurd (omega arith) }
 
-  take-more : {v : ℕ} {mid : List ℕ} → v * 4 + 3 < length mid → ColumnsTaken size w cells v before mid
-      → ColumnsTaken size w cells (v + 1) before (writeFour 4 v (λ j. j) (λ j. cellIn cells size v (w j)) mid)
+  take-more : {v : ℕ} {mid : List ℕ} → v * 4 + 3 < length mid → Taken x v before mid → Taken x (v + 1) before (writeFour 4 v (λ j. j) (x v) mid)
   take-more {v} {mid} on T = record {
-    same-length = four-length (λ j. v * 4 + j) x mid ∙ T .same-length;
+    same-length = four-length (λ j. v * 4 + j) (x v) mid ∙ T .same-length;
     taken = λ u j l s. at u j l s (ℕ-discrete u v);
   }
     where
-      x : ℕ → ℕ
-      x j = cellIn cells size v (w j)
-
       fits : (i : ℕ) → i < 4 → v * 4 + i < length mid
       fits i l = omega arith
 
-      here : (j : ℕ) → j < 4 → putFour (λ i. i) x j (cellIn mid 4 v j) ≡ x j
-      here = below-four (λ j. putFour (λ i. i) x j (cellIn mid 4 v j) ≡ x j) refl refl refl refl
+      here : (j : ℕ) → j < 4 → putFour (λ i. i) (x v) j (cellIn mid 4 v j) ≡ x v j
+      here = below-four (λ j. putFour (λ i. i) (x v) j (cellIn mid 4 v j) ≡ x v j) refl refl refl refl
 
-      at : (u j : ℕ) → u < v + 1 → j < 4 → Dec (u ≡ v) → cellIn (writeFour 4 v (λ i. i) x mid) 4 u j ≡ cellIn cells size u (w j)
+      at : (u j : ℕ) → u < v + 1 → j < 4 → Dec (u ≡ v) → cellIn (writeFour 4 v (λ i. i) (x v) mid) 4 u j ≡ x u j
       at u j l s (yes e) =
-          ap (λ (y : ℕ). cellIn (writeFour 4 v (λ i. i) x mid) 4 y j) e
-          ∙ four-node 4 v (λ i. i) x mid (λ i l. l) fits j s ∙ here j s ∙ ap (λ (y : ℕ). cellIn cells size y (w j)) (sym e)
-      at u j l s (no ne) = four-other 4 v (λ i. i) x mid (λ i l. l) fits u j s ne ∙ T .taken u j (omega arith) s
+          ap (λ (y : ℕ). cellIn (writeFour 4 v (λ i. i) (x v) mid) 4 y j) e
+          ∙ four-node 4 v (λ i. i) (x v) mid (λ i l. l) fits j s ∙ here j s ∙ ap (λ (y : ℕ). x y j) (sym e)
+      at u j l s (no ne) = four-other 4 v (λ i. i) (x v) mid (λ i l. l) fits u j s ne ∙ T .taken u j (omega arith) s
 
-  pub take-next : {v : ℕ} {f : Four} {mid after : List ℕ} → v * 4 + 3 < length mid → ColumnsTaken size w cells v before mid
-      → f ≡ fourAt cells size v w → after ≡ writeFour 4 v (λ j. j) (nth f) mid → ColumnsTaken size w cells (v + 1) before after
+  pub take-next : {v : ℕ} {f : Four} {mid after : List ℕ} → v * 4 + 3 < length mid → Taken x v before mid → f ≡ fourBy x v
+      → after ≡ writeFour 4 v (λ j. j) (nth f) mid → Taken x (v + 1) before after
   take-next {v} {f} {mid} on T is new =
-      subst (ColumnsTaken size w cells (v + 1) before) (sym (new ∙ ap (λ (g : Four). writeFour 4 v (λ j. j) (nth g) mid) is)) (take-more on T)
+      subst (Taken x (v + 1) before) (sym (new ∙ ap (λ (g : Four). writeFour 4 v (λ j. j) (nth g) mid) is)) (take-more on T)
 
 -- ---- given back
 
@@ -87,8 +91,8 @@ module _ {size : ℕ} {w : ℕ → ℕ} {lanes before : List ℕ} where
       (give-more small (λ j s. omega (arith, small j s, row-fits v n size l, G .same-length)) G)
 
 -- all nodes
-pub taken-all : {size v n : ℕ} {w : ℕ → ℕ} {cells before after : List ℕ} → v ≡ n → ColumnsTaken size w cells v before after → ColumnsTaken size w cells n before after
-taken-all {size} {v} {n} {w} {cells} {before} {after} e T = subst (λ (x : ℕ). ColumnsTaken size w cells x before after) e T
+pub taken-all : {x : ℕ → ℕ → ℕ} {v n : ℕ} {before after : List ℕ} → v ≡ n → Taken x v before after → Taken x n before after
+taken-all {x} {v} {n} {before} {after} e T = subst (λ (u : ℕ). Taken x u before after) e T
 
 pub given-all : {size v n : ℕ} {w : ℕ → ℕ} {lanes before after : List ℕ} → v ≡ n → ColumnsGiven size w lanes v before after → ColumnsGiven size w lanes n before after
 given-all {size} {v} {n} {w} {lanes} {before} {after} e G = subst (λ (x : ℕ). ColumnsGiven size w lanes x before after) e G

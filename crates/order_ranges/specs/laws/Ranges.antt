@@ -84,6 +84,21 @@ module _ (at : ℕ → ℕ) (m size : ℕ) (O : Ordered at m size) where
         let less = proper-part-size (at i) y p (omega arith) in
         omega (arith, R .same i j f g jf jg, ap ones q)
 
+    -- and before the range
+    pub part-before : (i y : ℕ) → first ≤ i → i < last → Part y (at i) → y ≢ at i → (j : ℕ) × (j < first) × (at j ≡ y)
+    part-before i y f g p ne =
+        let le = part-le y (at i) p in
+        let (j, lj, e) = O .found y (omega (arith, O .below i (omega (arith, R .bound)))) in
+        (j, earlier j lj e (decLt j first) (decLt j i), e)
+      where
+        earlier : (j : ℕ) → j < m → at j ≡ y → Dec (j < first) → Dec (j < i) → j < first
+        earlier j lj e (yes b) d = b
+        earlier j lj e (no b) (yes c) = absurd (part-outside i y f g p ne j (omega arith) (omega arith) e)
+        earlier j lj e (no b) (no c) =
+            let le = part-le y (at i) p in
+            let less = proper-part-size (at i) y p (omega arith) in
+            absurd (omega (arith, O .rises i j (omega arith) lj, ap ones e))
+
     -- a part of a subset that stands before the range does so too
     pub earlier-outside : (i y : ℕ) → i < first → Part y (at i) → Outside at first last y
     earlier-outside i y l p j jf jg q = go (ℕ-discrete y (at i))

@@ -15,9 +15,6 @@ sets-of-requires c κs = search needs
 mul-total : tie.Need-mul-total
 mul-total c = omega (arith, total-fits (c .before .before .before .before .before .before .before .before .before .pre .0) (c .sets-of .ensures))
 
-mul-wide : tie.Need-mul-wide
-mul-wide c = search needs
-
 slice-aggregate-sets-below : tie.Need-slice-aggregate-sets-below
 slice-aggregate-sets-below c = search needs
 
@@ -36,11 +33,8 @@ slice-relend-prefix-fill c = total-long (c .before .before .before .before .befo
 slice-aggregate-fill-2 : tie.Need-slice-aggregate-fill-2
 slice-aggregate-fill-2 c = sym (length-take-le _ _ (total-long (c .before .before .before .before .before .before .before .before .before .before .before .before .before .before .pre .0) (c .before .before .before .before .before .sets-of .ensures) (c .before .before .before .before .before .before .before .before .before .before .before .before .before .before .pre .2)))
 
-array-borrow-prefix-lanes : tie.Need-array-borrow-prefix-lanes
-array-borrow-prefix-lanes c = search needs
-
 slice-aggregate-fill-3 : tie.Need-slice-aggregate-fill-3
-slice-aggregate-fill-3 c = sym (length-take-le _ _ (omega (arith, c .before .before .before .before .before .before .before .before .before .before .before .before .before .before .before .pre .0 .few-nodes)))
+slice-aggregate-fill-3 c = search needs
 
 fill-requires : tie.Need-fill-requires
 fill-requires c κs =
@@ -48,7 +42,7 @@ fill-requires c κs =
     let sized = listed .before .before in
     let start = sized .before .before .before .before .before .before .before .before .before in
     let p = start .pre in
-    fill-asked (p .0) (sized .sets-of .ensures) _ (now (start .args .cells)) _ (p .2) (omega (arith, p .0 .few-nodes)) (search needs) (listed .sets-below .ensures) (p .1)
+    fill-asked (p .0) (sized .sets-of .ensures) _ (now (start .args .cells)) _ (p .2) (omega arith) (search needs) (listed .sets-below .ensures) (p .1)
 
 slice-relend-prefix-mark-all : tie.Need-slice-relend-prefix-mark-all
 slice-relend-prefix-mark-all c = search needs
@@ -80,14 +74,12 @@ search-spec =
     (tie.spec
     sets-of-requires
     mul-total
-    mul-wide
     slice-aggregate-sets-below
     sets-below-requires
     array-share-prefix-sets
     slice-aggregate-fill
     slice-relend-prefix-fill
     slice-aggregate-fill-2
-    array-borrow-prefix-lanes
     slice-aggregate-fill-3
     fill-requires
     slice-relend-prefix-mark-all

@@ -6,17 +6,18 @@ use mathlib.Core.Path.{_≡_, sym, ap, _∙_, subst}
 use mathlib.Core.Logic.{_≢_, _⊎_, inl, inr}
 use native.Mathlib.Omega.{arith}
 use native.Mathlib.Decide.{decLt}
+use lib.Bits.{bitAnd}
 use lib.Pow.{pow-lt, pow-pos}
 use Rattle.subset.specs.Sets.{single, Part}
 use Rattle.subset.specs.laws.Parts.{part-le, difference-part, rest-disjoint, part-and-rest}
 use Rattle.graph.specs.Graph.{Graph, Sound, Landing}
 use Rattle.graph.specs.LeastTotals.{IsCostTable, Room}
 use Rattle.graph.specs.ClosedSupported.{Support, by-arc, by-split, Supported, Capped, StartedSet, ClosedSet}
-use Rattle.graph.specs.Theorems.{closed-and-supported, tries-start-set, lowering-keeps-started, pass-closes-set, others-keep-closed}
+use Rattle.graph.specs.Theorems.{closed-and-supported, tries-start-set, parts-finite-alike, lowering-keeps-started, pass-closes-set, others-keep-closed}
 use Rattle.graph.specs.laws.Lowering.{support-lower}
-use Rattle.order_ranges.specs.laws.Ranges.{Ordered, OneSize, Outside, Inside, inside-or-out, part-outside, earlier-outside}
+use Rattle.order_ranges.specs.laws.Ranges.{Ordered, OneSize, Outside, Inside, inside-or-out, part-outside, part-before, earlier-outside}
 use Rattle.settling.specs.laws.ClosedOver.{ArcFrom, ClosedOver}
-use Rattle.splits.specs.laws.BestSplit.{BestSplit, SplitAt}
+use Rattle.splits.specs.laws.BestSplit.{BestSplit, SplitAt, FirstFinite, first-parts}
 
 -- the sets at positions below p are closed, and those from p up to q are started
 pub record Filling (G : Graph) (top : ℕ) (at : ℕ → ℕ) (p q : ℕ) (c : ℕ → ℕ → ℕ) : Type 0 where
@@ -29,10 +30,10 @@ pub record Filling (G : Graph) (top : ℕ) (at : ℕ → ℕ) (p q : ℕ) (c : �
 
 -- ---- what is done to it
 
--- each cell of the sets at these positions becomes the least of itself and of its splits; the other cells stay
-pub record SplitSets (G : Graph) (at : ℕ → ℕ) (first last : ℕ) (c d : ℕ → ℕ → ℕ) : Type 0 where
+-- each cell of the sets at these positions becomes the least of itself and of its splits, by the rule of BestSplit; the other cells stay
+pub record SplitSets (G : Graph) (top : ℕ) (at : ℕ → ℕ) (first last : ℕ) (c d : ℕ → ℕ → ℕ) : Type 0 where
   pub others : (v w : ℕ) → v < G .nodes → w < 2 ^ G .terminals → Outside at first last w → d v w ≡ c v w
-  pub each : (v i : ℕ) → v < G .nodes → first ≤ i → i < last → BestSplit (c v) (at i) (d v (at i))
+  pub each : (v i : ℕ) → v < G .nodes → first ≤ i → i < last → BestSplit top (c v) (at i) (d v (at i))
 
 -- the cells of each set at these positions are closed over the arcs; the other cells stay
 pub record ClosedSets (G : Graph) (at : ℕ → ℕ) (first last : ℕ) (c d : ℕ → ℕ → ℕ) : Type 0 where
@@ -93,8 +94,8 @@ module _ (G : Graph) (sound : Sound G) (free : (v : ℕ) → G .charge v ≡ 0) 
     still-nothing v on = omega (arith, lower v 0 on (pow-pos (G .terminals)), F .nothing v on)
 
   -- splits of one size
-  pub splitting : Filling G top at first first c → SplitSets G at first last c d → Filling G top at first last d
-  splitting F S =
+  pub splitting : Room G top → Filling G top at first first c → SplitSets G top at first last c d → Filling G top at first last d
+  splitting room F S =
       record {
         nothing = still-nothing F (S .others) low;
         landed = still-landed F (S .others) low;
@@ -125,6 +126,26 @@ module _ (G : Graph) (sound : Sound G) (free : (v : ℕ) → G .charge v ≡ 0) 
               by-split y (w - y) (h .some-terminal) (λ e. h .not-all (omega arith)) (rest-disjoint w y (h .within)) sum
               (omega (arith, h .makes)) (omega (arith, h .makes)) (omega (arith, h .makes, free v))
 
+      -- the parts of the first split have finite cells where those of another split have
+      first-finite : (v i y : ℕ) → v < G .nodes → first ≤ i → i < last → at i < 2 ^ G .terminals → Part y (at i) → y ≢ 0 → y < at i
+          → c v y < top → c v (at i - y) < top → FirstFinite top (c v) (at i)
+      first-finite v i y on f g small p ny less fy fz =
+          let w : ℕ = at i in
+          let y₀ : ℕ = bitAnd (w - 1) w in
+          let (part, some, not-all) = first-parts w y p ny less in
+          let le = part-le y₀ w part in
+          let finite = parts-finite-alike G sound c top room (F .supported) w small closed-part v y on p ny (λ e. omega arith) fy fz in
+          record {
+            greater = finite y₀ part some not-all;
+            lowest = finite (w - y₀) (difference-part w y₀ part) (λ e. not-all (omega arith)) (λ e. some (omega arith));
+          }
+        where
+          closed-part : (z : ℕ) → Part z (at i) → z ≢ 0 → z ≢ at i → ClosedSet G c z
+          closed-part z p nz ne =
+              let le = part-le z (at i) p in
+              let (j, before, e) = part-before at m (2 ^ G .terminals) O first last R i z f g p ne in
+              subst (ClosedSet G c) e (F .closed j before (λ q. nz (sym e ∙ q)) (omega arith))
+
       begins : (i : ℕ) → first ≤ i → i < last → at i < 2 ^ G .terminals → StartedSet G d (at i)
       begins i f g small =
           tries-start-set G d top (at i)
@@ -136,7 +157,8 @@ module _ (G : Graph) (sound : Sound G) (free : (v : ℕ) → G .charge v ≡ 0) 
           let back : w - (w - y) ≡ y = omega arith in
           let sy : d v y ≡ c v y = part-same F (S .others) low i f g small v y on p (λ e. omega arith) in
           let sz : d v (w - y) ≡ c v (w - y) = part-same F (S .others) low i f g small v (w - y) on q (λ e. ny (omega arith)) in
-          omega (arith, S .each v i on f g .least (w - y) q (omega arith) (omega arith), ap (c v) back, free v))
+          let finite = first-finite v i y on f g small p ny (omega arith) (omega arith) (omega arith) in
+          omega (arith, S .each v i on f g .least finite (w - y) q (omega arith) (omega arith), ap (c v) back, free v))
           (λ v on. still-capped F (S .others) low v (at i) on small)
           (λ v y on ny p. omega (arith, free v))
 

@@ -9,7 +9,7 @@ use mathlib.Core.Option.{Option, none, some, Option·getD}
 use native.Mathlib.Omega.{arith}
 use native.Mathlib.Nat.{zero-add, mul-le-mul}
 use lib.Arith.{digits-lt}
-use lib.ListN.{length, getD, take, drop, replicate, length-replicate}
+use lib.ListN.{length, getD, take, drop, replicate, length-replicate, length-append, length-drop}
 use lib.Seq.{length-take-le}
 use lib.Pow.{pow-lt, pow-pos, pow-mono}
 use lib.Dec.{eqb}
@@ -112,7 +112,7 @@ module _ {n k m : ℕ} {t : SheetTables} (S : Searchable n k m t) where
       pub fill-split : Filling G workingNone at first first (cellIn before size) → SplitTo at first last n size n before after
           → Filling G workingNone at first last (cellIn after size)
       fill-split F E =
-          splitting G (S .sound) (λ v. refl) workingNone at count O first last R (cellIn before size) (cellIn after size) F
+          splitting G (S .sound) (λ v. refl) workingNone at count O first last R (cellIn before size) (cellIn after size) room F
           (record {
             others = λ v w on small out. E .done v on on .others w (omega arith) out;
             each = λ v i on f g. E .done v on on .each i f g;
@@ -182,9 +182,10 @@ module _ {n k m : ℕ} {t : SheetTables} (S : Searchable n k m t) where
 
     module _ {at : ℕ → ℕ} {count : ℕ} (O : Ordered at count (2 ^ k)) {first last : ℕ} (R : OneSize at count first last) where
       pub split-asked : (cells : List ℕ) → length cells ≡ n * size → 0 < first → Filling G workingNone at first first (cellIn cells size)
+          → {lanes : ℕ} → 2 ^ k * 4 ≤ lanes
           → Ordered at count size × OneSize at count first last × (0 < first) × (n ≤ maxNodes) × (size ≤ maxSubsets) × (length cells ≡ n * size)
-          × AllLow cells
-      split-asked cells whole pos F = (sets-in O, R, pos, S .few-nodes, size-few, whole, fill-low cells whole F)
+          × AllLow cells × (size * 4 ≤ lanes)
+      split-asked cells whole pos F wide = (sets-in O, R, pos, S .few-nodes, size-few, whole, fill-low cells whole F, omega arith)
 
       -- after the splits
       pub close-asked : (before cells lanes : List ℕ) {byEnd places : List ℕ} → Indexed n m (G .end) byEnd places → length lanes ≡ n * 4 → length before ≡ n * size
@@ -225,6 +226,10 @@ module _ {n k m : ℕ} {t : SheetTables} (S : Searchable n k m t) where
 
 -- ---- parts of longer tables
 
+-- the first i entries of a list, changed: it is as long as before
+pub relent-length : (i : ℕ) (old new : List ℕ) {len : ℕ} → length new ≡ length (take i old) → length old ≡ len → i ≤ len → length (new ++ drop i old) ≡ len
+relent-length i old new e same long = omega (arith, length-append new (drop i old), length-drop i old, length-take-le i old (omega arith))
+
 module _ {n k m : ℕ} {t : SheetTables} (S : Searchable n k m t) where
   -- how many cells there are
   pub total-fits : {size : ℕ} → size ≡ 2 ^ k → n * size ≤ maxNodes * maxSubsets
@@ -236,18 +241,19 @@ module _ {n k m : ℕ} {t : SheetTables} (S : Searchable n k m t) where
   pub total-long : {size len : ℕ} → size ≡ 2 ^ k → n * 2 ^ k ≤ len → n * size ≤ len
   total-long is long = omega (arith, ap (λ (x : ℕ). n * x) is)
 
-  -- what is asked of parts of the sets, the cells and the lanes, where so many are taken
-  pub fill-asked : {size count : ℕ} {byEnd places : List ℕ} → size ≡ 2 ^ k → (sets cells lanes : List ℕ) → n * 2 ^ k ≤ length cells → n * 4 ≤ length lanes
+  -- what is asked of parts of the sets and the cells, where so many are taken, and of so many lanes
+  pub fill-asked : {size count : ℕ} {byEnd places : List ℕ} → size ≡ 2 ^ k → (sets cells : List ℕ) (lanes : ℕ) → n * 2 ^ k ≤ length cells → maxNodes * 4 ≤ lanes
       → length sets ≡ maxSubsets → (count ≤ maxSubsets) × Ordered (entryOf sets) count size → Indexed n m (graphIn n k m t .end) byEnd places
       → Searchable n k m t × Indexed n m (graphIn n k m t .end) byEnd places × (length (take (n * size) cells) ≡ n * 2 ^ k)
-      × (length (take (n * 4) lanes) ≡ n * 4) × Ordered (entryOf (take count sets)) (length (take count sets)) (2 ^ k)
+      × (n * 4 ≤ lanes) × (2 ^ k * 4 ≤ lanes) × Ordered (entryOf (take count sets)) (length (take count sets)) (2 ^ k)
       × (length (take count sets) ≤ maxSubsets)
   fill-asked {size} {count} is sets cells lanes long wide all (few, order) I =
       let so-many : length (take count sets) ≡ count = length-take-le count sets (omega arith) in (
         S,
         I,
         length-take-le (n * size) cells (total-long is long) ∙ ap (λ (x : ℕ). n * x) is,
-        length-take-le (n * 4) lanes wide,
+        omega (arith, S .few-nodes),
+        omega (arith, few-sets S),
         subst₂ (Ordered (entryOf (take count sets))) (sym so-many) is (taken-order count sets order),
         omega arith,
       )

@@ -1,9 +1,10 @@
 -- The least that a set costs at a node by itself or by a split into two parts, from the costs of the sets there; the splits are tried by their
--- greater part, in falling order.
+-- greater part, in falling order, unless the first one shows that none needs to be tried.
 -- Assumes nothing.
 use Prim.Native.Nat.{ℕ, _+_, _-_, _≤_, _<_, min}
 use mathlib.Core.Path.{_≡_, refl, sym, ap, ap₂, _∙_, subst}
 use mathlib.Core.Logic.{_≢_, _⊎_, inl, inr}
+use mathlib.Core.Bool.{false}
 use mathlib.Core.List.{List}
 use native.Mathlib.Omega.{arith}
 use native.Mathlib.Decide.{ℕ-discrete, decLt}
@@ -13,7 +14,8 @@ use Rattle.subset.specs.laws.Parts.{part-le}
 use Rattle.subset.specs.laws.Falling.{common-part, next-part}
 use Rattle.lanes.specs.declared.Four.{Four}
 use Rattle.lanes.specs.laws.Four.{nth, lessFour, less-nth}
-use Rattle.splits.specs.laws.FourRows.{sumFour, sum-nth, rowsAt, rows-nth, costsIn, cellsAt, AreRows}
+use Rattle.working_none.specs.laws.WorkingNone.{workingNone}
+use Rattle.splits.specs.laws.FourRows.{sumFour, sum-nth, rowsAt, rows-nth, cellsAt, setCosts, RowsTaken, bothFinite, none-finite}
 
 -- w is split into y and the rest at a cost of r
 pub record SplitAt (f : ℕ → ℕ) (w r : ℕ) : Type 0 where
@@ -23,22 +25,42 @@ pub record SplitAt (f : ℕ → ℕ) (w r : ℕ) : Type 0 where
   pub not-all : part ≢ w
   pub makes : r ≡ f part + f (w - part)
 
--- r is the least of the cost of w and of its splits, where the set y costs f y
-pub record BestSplit (f : ℕ → ℕ) (w r : ℕ) : Type 0 where
+-- both parts of the first split, into w without its lowest terminal and this one, have costs below `top`
+pub record FirstFinite (top : ℕ) (f : ℕ → ℕ) (w : ℕ) : Type 0 where
+  pub greater : f (bitAnd (w - 1) w) < top
+  pub lowest : f (w - bitAnd (w - 1) w) < top
+
+-- where a set has a proper part, the first split has two
+pub first-parts : (w y : ℕ) → Part y w → y ≢ 0 → y < w
+    → Part (bitAnd (w - 1) w) w × (bitAnd (w - 1) w ≢ 0) × (bitAnd (w - 1) w ≢ w)
+first-parts w y p ny l =
+    let some = next-part w w y (and-self w) p l in
+    let less : bitAnd (w - 1) w ≤ w - 1 = and-le-l (w - 1) w in
+    (common-part (w - 1) w, λ e. ny (omega arith), λ e. omega arith)
+
+-- r is the cost of w or of one of its splits, where the set y costs f y; and the least of them, where the parts of the first split have costs below
+-- `top`
+pub record BestSplit (top : ℕ) (f : ℕ → ℕ) (w r : ℕ) : Type 0 where
   pub low : r ≤ f w
-  pub least : (y : ℕ) → Part y w → y < w → w < y + y → r ≤ f y + f (w - y)
+  pub least : FirstFinite top f w → (y : ℕ) → Part y w → y < w → w < y + y → r ≤ f y + f (w - y)
   pub from : (r ≡ f w) ⊎ SplitAt f w r
 
 -- the costs of the set and of its parts are all that counts
-pub best-split-same : (f g : ℕ → ℕ) (w r s : ℕ) → f w ≡ g w → ((y : ℕ) → Part y w → y ≢ 0 → y ≢ w → f y ≡ g y)
+pub best-split-same : (top : ℕ) (f g : ℕ → ℕ) (w r s : ℕ) → f w ≡ g w → ((y : ℕ) → Part y w → y ≢ 0 → y ≢ w → f y ≡ g y)
     → ((y : ℕ) → Part y w → y ≢ 0 → y ≢ w → f (w - y) ≡ g (w - y))
-    → r ≡ s → BestSplit f w r → BestSplit g w s
-best-split-same f g w r s own part rest e B = record {
+    → r ≡ s → BestSplit top f w r → BestSplit top g w s
+best-split-same top f g w r s own part rest e B = record {
   low = omega (arith, B .low);
-  least = λ y p l d. omega (arith, B .least y p l d, part y p (λ q. omega arith) (λ q. omega arith), rest y p (λ q. omega arith) (λ q. omega arith));
+  least = λ q y p l d.
+      omega (arith, B .least (same-first q y p l d) y p l d, part y p (λ q. omega arith) (λ q. omega arith), rest y p (λ q. omega arith) (λ q. omega arith));
   from = go (B .from);
 }
   where
+    same-first : FirstFinite top g w → (y : ℕ) → Part y w → y < w → w < y + y → FirstFinite top f w
+    same-first q y p l d =
+        let (own-part, some, not-all) = first-parts w y p (λ z. omega arith) l in
+        record { greater = omega (arith, q .greater, part _ own-part some not-all); lowest = omega (arith, q .lowest, rest _ own-part some not-all) }
+
     go : (r ≡ f w) ⊎ SplitAt f w r → (s ≡ g w) ⊎ SplitAt g w s
     go (inl q) = inl (sym e ∙ q ∙ own)
     go (inr h) = inr (record {
@@ -114,14 +136,18 @@ module _ (f : ℕ → ℕ) (w : ℕ) where
       choose (no l) = inl (omega arith)
 
   -- no greater part is left
-  pub tried-all : (y r : ℕ) → y + y ≤ w → Tried f w y r → BestSplit f w r
-  tried-all y r d B = record { low = B .low; least = λ z p l h. B .least z p l (omega arith); from = B .from }
+  pub tried-all : (top y r : ℕ) → y + y ≤ w → Tried f w y r → BestSplit top f w r
+  tried-all top y r d B = record { low = B .low; least = λ q z p l h. B .least z p l (omega arith); from = B .from }
+
+  -- none needs to be tried
+  pub tried-no-more : (top r : ℕ) → r ≡ f w → (FirstFinite top f w → ⊥) → BestSplit top f w r
+  tried-no-more top r e none = record { low = omega arith; least = λ q. absurd (none q); from = inl e }
 
 -- ---- at four nodes
 
 -- the least costs of w at four nodes, where the set y costs f j y at node j
 pub record BestSplits (f : ℕ → ℕ → ℕ) (w : ℕ) (best : Four) : Type 0 where
-  pub each : (j : ℕ) → j < 4 → BestSplit (f j) w (nth best j)
+  pub each : (j : ℕ) → j < 4 → BestSplit workingNone (f j) w (nth best j)
 
 -- the splits by the parts above y have been tried at each of them
 pub record FourTried (f : ℕ → ℕ → ℕ) (w y : ℕ) (best : Four) : Type 0 where
@@ -151,14 +177,24 @@ module _ {f : ℕ → ℕ → ℕ} {w : ℕ} where
           ∙ ap₂ _+_ (ap (λ (q : Four). nth q j) is-one ∙ rows-nth f y j s) (ap (λ (q : Four). nth q j) is-other ∙ rows-nth f (w - y) j s))
 
   pub four-tried-all : {y : ℕ} {best : Four} → y + y ≤ w → FourTried f w y best → BestSplits f w best
-  four-tried-all {y} {best} d T = record { each = λ j s. tried-all (f j) w y (nth best j) d (T .each j s) }
+  four-tried-all {y} {best} d T = record { each = λ j s. tried-all (f j) w workingNone y (nth best j) d (T .each j s) }
 
--- the least costs in the rows of four nodes are those in the table
-pub best-in-table : {cells : List ℕ} {size w : ℕ} {r : ℕ → ℕ} {list : ℕ → List ℕ} {best : Four} → w < size → AreRows cells size r list
-    → BestSplits (costsIn list) w best → BestSplits (cellsAt cells size r) w best
-best-in-table {cells} {size} {w} {r} {list} {best} small A B = record {
+  -- at each of them the first split has a part that is "none"
+  pub four-no-more : {best greater lowest : Four} → best ≡ rowsAt f w → greater ≡ rowsAt f (bitAnd (w - 1) w) → lowest ≡ rowsAt f (w - bitAnd (w - 1) w)
+      → bothFinite greater lowest ≡ false → BestSplits f w best
+  four-no-more {best} {greater} {lowest} is is-greater is-lowest fails = record {
+    each = λ j s.
+        tried-no-more (f j) w workingNone (nth best j) (ap (λ (q : Four). nth q j) is ∙ rows-nth f w j s)
+        (λ q. none-finite greater lowest fails j s
+        (omega (arith, q .greater, ap (λ (g : Four). nth g j) is-greater, rows-nth f (bitAnd (w - 1) w) j s))
+        (omega (arith, q .lowest, ap (λ (g : Four). nth g j) is-lowest, rows-nth f (w - bitAnd (w - 1) w) j s)));
+  }
+
+-- the least costs in a list of the rows of four nodes, set by set, are those in the table
+pub best-in-table : (cells : List ℕ) (r : ℕ → ℕ) {before after : List ℕ} {size w : ℕ} {best : Four} → w < size → RowsTaken cells size r size before after
+    → BestSplits (setCosts after) w best → BestSplits (cellsAt cells size r) w best
+best-in-table cells r {before} {after} {size} {w} {best} small T B = record {
   each = λ j s.
-      let same = A .each j s .same in
-      best-split-same (costsIn list j) (cellsAt cells size r j) w (nth best j) (nth best j) (same w small)
-      (λ y p ny ne. same y (omega (arith, part-le y w p))) (λ y p ny ne. same (w - y) (omega arith)) refl (B .each j s);
+      best-split-same workingNone (setCosts after j) (cellsAt cells size r j) w (nth best j) (nth best j) (T .taken w j small s)
+      (λ y p ny ne. T .taken y j (omega (arith, part-le y w p)) s) (λ y p ny ne. T .taken (w - y) j (omega arith) s) refl (B .each j s);
 }

@@ -1,17 +1,21 @@
--- The costs of one set at four nodes: added, in four lists, and in a table, whose rows are such lists; and what is asked of the lists and of the
--- table.
+-- The costs of one set at four nodes: added, tested, in the rows of a table, and in a list that has four for each set; and what is asked of the table
+-- and of the list.
 -- Assumes nothing.
-use Prim.Native.Nat.{ℕ, zero, suc, _+_, _-_, _*_, _≤_, _<_}
+use Prim.Native.Nat.{ℕ, _+_, _-_, _*_, _≤_, _<_}
 use mathlib.Core.Path.{_≡_, refl, sym, _∙_, subst}
+use mathlib.Core.Bool.{Bool, true, false, _&&_, _||_, true≢false}
 use mathlib.Core.List.{List}
 use native.Mathlib.Omega.{arith}
-use lib.ListN.{length, take, drop, length-drop}
-use lib.Seq.{length-take-le, getD-take, getD-drop}
+use borrow.Author.Tests.{lt-ltb}
+use lib.Dec.{ltb}
+use lib.ListN.{length}
 use Rattle.limits.specs.Limits.{maxSubsets}
 use Rattle.cost_table.specs.Cells.{cellIn}
 use Rattle.lanes.specs.declared.Four.{Four}
-use Rattle.lanes.specs.laws.Four.{nth, FourLow, below-four}
-use Rattle.working_none.specs.laws.Low.{entry, AllLow}
+use Rattle.lanes.specs.laws.Four.{nth, fourOf, FourLow, below-four}
+use Rattle.lanes.specs.laws.Columns.{Taken}
+use Rattle.working_none.specs.laws.WorkingNone.{workingNone}
+use Rattle.working_none.specs.laws.Low.{AllLow}
 
 -- four costs and four costs, added
 abbrev pub sumFour : (x y : Four) → Four
@@ -27,34 +31,33 @@ rowsAt f w = record { a = f 0 w; b = f 1 w; c = f 2 w; d = f 3 w }
 pub rows-nth : (f : ℕ → ℕ → ℕ) (w j : ℕ) → j < 4 → nth (rowsAt f w) j ≡ f j w
 rows-nth f w = below-four (λ j. nth (rowsAt f w) j ≡ f j w) refl refl refl refl
 
--- ---- in four lists
+-- ---- two costs that are finite
 
--- one of four lists
-abbrev pub listOf : (a b c d : List ℕ) → ℕ → List ℕ
-listOf a b c d zero = a
-listOf a b c d (suc zero) = b
-listOf a b c d (suc (suc zero)) = c
-listOf a b c d (suc (suc (suc j))) = d
+-- both of two costs are
+abbrev pub finite : (x y : ℕ) → Bool
+finite x y = ltb x workingNone && ltb y workingNone
 
--- the costs in the lists list 0 to list 3
-abbrev pub costsIn : (list : ℕ → List ℕ) → (j w : ℕ) → ℕ
-costsIn list j w = entry (list j) w
+-- at one of four nodes both are
+abbrev pub bothFinite : (x y : Four) → Bool
+bothFinite x y = ((finite (x .a) (y .a) || finite (x .b) (y .b)) || finite (x .c) (y .c)) || finite (x .d) (y .d)
 
--- each of them has an entry for the set w, and no entry is above "none"
-pub record FourLists (list : ℕ → List ℕ) (w : ℕ) : Type 0 where
-  pub few : w < maxSubsets
-  pub fit : (j : ℕ) → j < 4 → w < length (list j)
-  pub low : (j : ℕ) → j < 4 → AllLow (list j)
+finite-true : {x y : ℕ} → x < workingNone → y < workingNone → finite x y ≡ true
+finite-true {x} {y} l r = λ i. lt-ltb x workingNone l i && lt-ltb y workingNone r i
 
--- what is asked where they are read
-pub lists-fit : {list : ℕ → List ℕ} {w y : ℕ} → FourLists list w → y ≤ w
-    → (y < length (list 0)) × (y < length (list 1)) × (y < length (list 2)) × (y < length (list 3))
-lists-fit L l = (omega (arith, L .fit 0 (omega arith)), omega (arith, L .fit 1 (omega arith)), omega (arith, L .fit 2 (omega arith)), omega (arith, L .fit 3 (omega arith)))
-
-pub read-low : {list : ℕ → List ℕ} {w y : ℕ} {f : Four} → FourLists list w → y ≤ w → f ≡ rowsAt (costsIn list) y → FourLow f
-read-low {list} {w} {y} L l is =
-    let (a, b, c, d) = lists-fit L l in
-    subst FourLow (sym is) (L .low 0 (omega arith) y a, L .low 1 (omega arith) y b, L .low 2 (omega arith) y c, L .low 3 (omega arith) y d)
+-- where the test fails, at none of them
+pub none-finite : (x y : Four) → bothFinite x y ≡ false → (j : ℕ) → j < 4 → nth x j < workingNone → nth y j < workingNone → ⊥
+none-finite x y fails = below-four (λ j. nth x j < workingNone → nth y j < workingNone → ⊥)
+    (λ l r. go (finite (x .a) (y .a)) (finite (x .b) (y .b)) (finite (x .c) (y .c)) (finite (x .d) (y .d)) fails .0 (finite-true l r))
+    (λ l r. go (finite (x .a) (y .a)) (finite (x .b) (y .b)) (finite (x .c) (y .c)) (finite (x .d) (y .d)) fails .1 (finite-true l r))
+    (λ l r. go (finite (x .a) (y .a)) (finite (x .b) (y .b)) (finite (x .c) (y .c)) (finite (x .d) (y .d)) fails .2 (finite-true l r))
+    (λ l r. go (finite (x .a) (y .a)) (finite (x .b) (y .b)) (finite (x .c) (y .c)) (finite (x .d) (y .d)) fails .3 (finite-true l r))
+  where
+    go : (p q r s : Bool) → ((p || q) || r) || s ≡ false → (p ≡ true → ⊥) × (q ≡ true → ⊥) × (r ≡ true → ⊥) × (s ≡ true → ⊥)
+    go true q r s e = absurd (true≢false e)
+    go false true r s e = absurd (true≢false e)
+    go false false true s e = absurd (true≢false e)
+    go false false false true e = absurd (true≢false e)
+    go false false false false e = (λ t. true≢false (sym t), λ t. true≢false (sym t), λ t. true≢false (sym t), λ t. true≢false (sym t))
 
 -- ---- in a table
 
@@ -68,47 +71,37 @@ pub record Rows (cells : List ℕ) (size : ℕ) (r : ℕ → ℕ) : Type 0 where
   pub fit : (j w : ℕ) → j < 4 → w < size → r j * size + w < length cells
   pub low : AllLow cells
 
--- the list is the row of node v
-pub record IsRow (cells : List ℕ) (size v : ℕ) (list : List ℕ) : Type 0 where
-  pub long : length list ≡ size
-  pub same : (w : ℕ) → w < size → entry list w ≡ cellIn cells size v w
+-- what is asked where the cells of one set are read or written
+pub rows-fit : {cells : List ℕ} {size w : ℕ} {r : ℕ → ℕ} → Rows cells size r → w < size
+    → (r 0 * size + w < length cells) × (r 1 * size + w < length cells) × (r 2 * size + w < length cells) × (r 3 * size + w < length cells)
+rows-fit {w = w} B small = (B .fit 0 w (omega arith) small, B .fit 1 w (omega arith) small, B .fit 2 w (omega arith) small, B .fit 3 w (omega arith) small)
 
--- the part of the table from the first cell of the node to the end of its last one is
-pub part-row : (cells : List ℕ) (size v : ℕ) → v * size + size ≤ length cells
-    → IsRow cells size v (take (v * size + size - v * size) (drop (v * size) cells))
-part-row cells size v fits =
-    let so-many : ℕ = v * size + size - v * size in
-    let rest : List ℕ = drop (v * size) cells in
-    record {
-      long = omega (arith, length-take-le so-many rest (omega (arith, length-drop (v * size) cells)));
-      same = λ w l. getD-take so-many rest w 0 (omega arith) ∙ getD-drop (v * size) cells w 0;
-    }
+-- ---- in a list with four costs for each set
 
--- the lists list 0 to list 3 are the rows of the nodes r 0 to r 3
-pub record AreRows (cells : List ℕ) (size : ℕ) (r : ℕ → ℕ) (list : ℕ → List ℕ) : Type 0 where
-  pub each : (j : ℕ) → j < 4 → IsRow cells size (r j) (list j)
+-- the cost of the set w at node j
+abbrev pub setCosts : List ℕ → (j w : ℕ) → ℕ
+setCosts list j w = cellIn list 4 w j
 
-pub four-are : {cells : List ℕ} {size : ℕ} {r : ℕ → ℕ} {a b c d : List ℕ} → IsRow cells size (r 0) a → IsRow cells size (r 1) b
-    → IsRow cells size (r 2) c → IsRow cells size (r 3) d → AreRows cells size r (listOf a b c d)
-four-are {cells} {size} {r} {a} {b} {c} {d} is-a is-b is-c is-d = record {
-  each = below-four (λ j. IsRow cells size (r j) (listOf a b c d j)) is-a is-b is-c is-d;
+-- the first w sets have the cells of the nodes r 0 to r 3
+abbrev pub RowsTaken : (cells : List ℕ) → (size : ℕ) → (r : ℕ → ℕ) → (w : ℕ) → (before after : List ℕ) → Type 0
+RowsTaken cells size r w before after = Taken (λ y j. cellsAt cells size r j y) w before after
+
+-- the list has the costs of w and of its parts, none of which is above "none"
+pub record FourCosts (list : List ℕ) (w : ℕ) : Type 0 where
+  pub few : w < maxSubsets
+  pub fits : w * 4 + 4 ≤ length list
+  pub low : (j y : ℕ) → j < 4 → y ≤ w → setCosts list j y ≤ workingNone
+
+-- what is asked where costs are added
+pub costs-low : {list : List ℕ} {w y : ℕ} {f : Four} → FourCosts list w → y ≤ w → f ≡ fourOf list y → FourLow f
+costs-low {list} {w} {y} C l is =
+    subst FourLow (sym is) (C .low 0 y (omega arith) l, C .low 1 y (omega arith) l, C .low 2 y (omega arith) l, C .low 3 y (omega arith) l)
+
+-- the rows of four nodes, taken set by set, are such a list
+pub taken-costs : {cells before after : List ℕ} {size w : ℕ} {r : ℕ → ℕ} → Rows cells size r → size * 4 ≤ length before → w < size
+    → RowsTaken cells size r size before after → FourCosts after w
+taken-costs {size = size} {w} {r} B long small T = record {
+  few = omega (arith, B .few);
+  fits = omega (arith, T .same-length);
+  low = λ j y s l. let on : y < size = omega arith in omega (arith, T .taken y j on s, B .low (r j * size + y) (B .fit j y s on));
 }
-
-module _ {cells : List ℕ} {size w : ℕ} {r : ℕ → ℕ} (B : Rows cells size r) (small : w < size) where
-  -- what is asked where the cells of one set are written
-  pub rows-fit : (r 0 * size + w < length cells) × (r 1 * size + w < length cells) × (r 2 * size + w < length cells) × (r 3 * size + w < length cells)
-  rows-fit = (B .fit 0 w (omega arith) small, B .fit 1 w (omega arith) small, B .fit 2 w (omega arith) small, B .fit 3 w (omega arith) small)
-
-  -- what is asked where a row is taken
-  pub row-within : (j : ℕ) → j < 4 → r j * size + size ≤ length cells
-  row-within j s = omega (arith, B .fit j (size - 1) s (omega arith))
-
-  -- what is asked where the splits are tried
-  pub rows-lists : {list : ℕ → List ℕ} → AreRows cells size r list → FourLists list w
-  rows-lists A = record {
-    few = omega (arith, B .few);
-    fit = λ j s. omega (arith, A .each j s .long);
-    low = λ j s i l.
-        let on : i < size = omega (arith, A .each j s .long) in
-        omega (arith, A .each j s .same i on, B .low (r j * size + i) (B .fit j i s on));
-  }

@@ -17,6 +17,7 @@ use Rattle.lanes.specs.declared.Four.{Four}
 use Rattle.lanes.specs.declared.FourNumbers.{FourNumbers}
 use Rattle.lanes.specs.laws.Four.{nth, nthNumber, fourFrom, from-nth}
 use Rattle.lanes.specs.laws.WriteFour.{LaneOf, NoLane, lane-or-none, writeRows, four-length, four-low, rows-set, rows-others}
+use Rattle.working_none.specs.laws.WorkingNone.{workingNone}
 use Rattle.working_none.specs.laws.Low.{entry, AllLow}
 use Rattle.splits.specs.laws.BestSplit.{BestSplit, best-split-same, BestSplits}
 use Rattle.splits.specs.laws.FourRows.{cellsAt, Rows}
@@ -26,36 +27,21 @@ use Rattle.splits.specs.laws.FourRows.{cellsAt, Rows}
 -- each cell of the sets at these positions is the least of itself and of its splits; the other cells stay. f has the cells before, g those after
 pub record SplitCells (at : ℕ → ℕ) (first last size : ℕ) (f g : ℕ → ℕ) : Type 0 where
   pub others : (w : ℕ) → w < size → Outside at first last w → g w ≡ f w
-  pub each : (i : ℕ) → first ≤ i → i < last → BestSplit f (at i) (g (at i))
+  pub each : (i : ℕ) → first ≤ i → i < last → BestSplit workingNone f (at i) (g (at i))
 
 -- one position more
 module _ {m size : ℕ} {at : ℕ → ℕ} (O : Ordered at m size) {first last : ℕ} (R : OneSize at m first last) {p : ℕ} {f g h : ℕ → ℕ} (l : first ≤ p) (b : p < last)
-    (S : SplitCells at first p size f g) (same : (w : ℕ) → w < size → w ≢ at p → h w ≡ g w) (best : BestSplit g (at p) (h (at p))) where
-  below : at p < size
-  below = O .below p (omega (arith, R .bound))
-
-  own-yet : g (at p) ≡ f (at p)
-  own-yet = S .others (at p) below (λ i a c e. O .apart i p c (omega (arith, R .bound)) e)
-
-  part-yet : (y : ℕ) → Part y (at p) → y ≢ at p → g y ≡ f y
-  part-yet y part ne =
-      S .others y (omega (arith, part-le y (at p) part, below)) (λ i a c. part-outside at m size O first last R p y l b part ne i a (omega arith))
-
+    (S : SplitCells at first p size f g) (same : (w : ℕ) → w < size → w ≢ at p → h w ≡ g w) (best : BestSplit workingNone f (at p) (h (at p))) where
   pub split-next : SplitCells at first (p + 1) size f h
   split-next = record {
     others = λ w small out. same w small (λ e. out p l (omega arith) (sym e)) ∙ S .others w small (λ i a c. out i a (omega arith));
     each = λ i a c. go i a c (ℕ-discrete i p);
   }
     where
-      here : BestSplit f (at p) (h (at p))
-      here =
-          best-split-same g f (at p) (h (at p)) (h (at p)) own-yet (λ y part ny ne. part-yet y part ne)
-          (λ y part ny ne. part-yet (at p - y) (difference-part (at p) y part) (λ e. ny (let le = part-le y (at p) part in omega arith))) refl best
-
-      go : (i : ℕ) → first ≤ i → i < p + 1 → Dec (i ≡ p) → BestSplit f (at i) (h (at i))
-      go i a c (yes e) = subst (λ (j : ℕ). BestSplit f (at j) (h (at j))) (sym e) here
+      go : (i : ℕ) → first ≤ i → i < p + 1 → Dec (i ≡ p) → BestSplit workingNone f (at i) (h (at i))
+      go i a c (yes e) = subst (λ (j : ℕ). BestSplit workingNone f (at j) (h (at j))) (sym e) best
       go i a c (no ne) =
-          subst (BestSplit f (at i))
+          subst (BestSplit workingNone f (at i))
           (sym (same (at i) (O .below i (omega (arith, R .bound))) (λ e. O .apart i p (omega arith) (omega (arith, R .bound)) e)))
           (S .each i a (omega arith))
 
@@ -85,15 +71,15 @@ module _ {at : ℕ → ℕ} {first size : ℕ} {r : ℕ → ℕ} {before : List 
   }
 
   pub four-next : {m last p w : ℕ} {best : Four} {mid after : List ℕ} → Ordered at m size → OneSize at m first last → first ≤ p → p < last → Rows before size r
-      → FourSplit at first p size r before mid → w ≡ at p → BestSplits (cellsAt mid size r) w best
+      → FourSplit at first p size r before mid → w ≡ at p → BestSplits (cellsAt before size r) w best
       → after ≡ writeRows size r w (nth best) mid → FourSplit at first (p + 1) size r before after
   four-next {m} {last} {p} {w} {best} {mid} {after} O R l b B S is least new = record {
     same-length = ap length new ∙ four-length (λ j. r j * size + w) x mid ∙ S .same-length;
-    low = λ i. omega (arith, ap (λ (k : List ℕ). entry k i) new, four-low (λ j. r j * size + w) x mid fit (λ j s. least .each j s .low) i, S .low i);
+    low = λ i. omega (arith, ap (λ (k : List ℕ). entry k i) new, four-low (λ j. r j * size + w) x mid fit (λ j s. omega (arith, least .each j s .low, own-yet j s)) i, S .low i);
     rows = λ j s.
         split-next O R l b (S .rows j s)
         (λ y ly ne. ap (λ (k : List ℕ). cellIn k size (r j) y) new ∙ rows-others size r w x mid small fit (r j) y ly (λ e. ne (e ∙ is)))
-        (subst (λ (y : ℕ). BestSplit (cellIn mid size (r j)) y (cellIn after size (r j) y)) is (row j s (lane-or-none r (r j))));
+        (subst (λ (y : ℕ). BestSplit workingNone (cellIn before size (r j)) y (cellIn after size (r j) y)) is (row j s (lane-or-none r (r j))));
     others = λ u y ly none.
         ap (λ (k : List ℕ). cellIn k size u y) new ∙ away u y ly none (ℕ-discrete y w) (lane-or-none r u) ∙ S .others u y ly none;
   }
@@ -107,11 +93,15 @@ module _ {at : ℕ → ℕ} {first size : ℕ} {r : ℕ → ℕ} {before : List 
       fit : (j : ℕ) → j < 4 → r j * size + w < length mid
       fit j s = omega (arith, B .fit j w s small, S .same-length)
 
-      row : (j : ℕ) → j < 4 → LaneOf r (r j) ⊎ NoLane r (r j) → BestSplit (cellIn mid size (r j)) w (cellIn after size (r j) w)
+      -- the cells of w are yet as they were
+      own-yet : (j : ℕ) → j < 4 → cellIn mid size (r j) w ≡ cellIn before size (r j) w
+      own-yet j s = S .rows j s .others w small (λ i a c e. O .apart i p c (omega (arith, R .bound)) (e ∙ is))
+
+      row : (j : ℕ) → j < 4 → LaneOf r (r j) ⊎ NoLane r (r j) → BestSplit workingNone (cellIn before size (r j)) w (cellIn after size (r j) w)
       row j s (inl n) =
-          subst (BestSplit (cellIn mid size (r j)) w)
+          subst (BestSplit workingNone (cellIn before size (r j)) w)
           (sym (ap (λ (k : List ℕ). cellIn k size (r j) w) new ∙ rows-set size r w x mid small fit (r j) ∙ n .written x (cellIn mid size (r j) w)))
-          (subst (λ (u : ℕ). BestSplit (cellIn mid size u) w (x (n .lane))) (n .same) (least .each (n .lane) (n .small)))
+          (subst (λ (u : ℕ). BestSplit workingNone (cellIn before size u) w (x (n .lane))) (n .same) (least .each (n .lane) (n .small)))
       row j s (inr n) = absurd (n .none j s refl)
 
       away : (u y : ℕ) → y < size → ((j : ℕ) → j < 4 → r j ≢ u) → Dec (y ≡ w) → LaneOf r u ⊎ NoLane r u
@@ -142,7 +132,7 @@ split-same {at} {m} {first} {last} {size} {f} {f'} {g} {g'} O bound sf sg S = re
   others = λ w l out. sym (sg w l) ∙ S .others w l out ∙ sf w l;
   each = λ i a b.
       let l = O .below i (omega arith) in
-      best-split-same f f' (at i) (g (at i)) (g' (at i)) (sf (at i) l) (λ y part ny ne. sf y (omega (arith, part-le y (at i) part)))
+      best-split-same workingNone f f' (at i) (g (at i)) (g' (at i)) (sf (at i) l) (λ y part ny ne. sf y (omega (arith, part-le y (at i) part)))
       (λ y part ny ne. sf (at i - y) (omega arith)) (sg (at i) l) (S .each i a b);
 }
 
