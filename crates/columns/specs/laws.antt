@@ -1,3 +1,4 @@
--- what is asked of the tables, and cells that are closed over the arcs
+-- what is asked of the tables, cells that are closed over the arcs, and cells that are all "none"
 pub mod Searched
 pub mod ClosedCells
+pub mod NoneFinite

@@ -7,6 +7,9 @@ use lanes::take_columns;
 use limits::Cost;
 use settling::settle;
 use turns::lower_by_turns;
+use working_none::WORKING_NONE;
+ghost use mathlib.Core.Path.{_≡_};
+ghost use mathlib.Core.Bool.{false};
 ghost use Prim.Native.Nat.{ℕ, _<_, _≤_};
 ghost use lib.ListN.{length};
 ghost use Rattle.limits.specs.Limits.{maxSubsets};
@@ -15,6 +18,7 @@ ghost use Rattle.lanes.specs.laws.Four.{nthNumber};
 ghost use Rattle.order_ranges.specs.laws.Ranges.{Ordered, OneSize, entryOf};
 ghost use Rattle.columns.specs.laws.Searched.{Tables};
 ghost use Rattle.columns.specs.laws.ClosedCells.{FourClosed, SetsClosed, NextFour};
+ghost use Rattle.columns.specs.laws.NoneFinite.{AllNone};
 
 // The sets at four positions from `position` on; past the last one before `last`, that one again.
 fn sets_at(sets: &[u16], position: usize, last: usize) -> FourNumbers
@@ -34,7 +38,21 @@ fn sets_at(sets: &[u16], position: usize, last: usize) -> FourNumbers
     }
 }
 
-// The cells of four sets are lowered along the legs until no leg gives less. The lanes have four entries for each site.
+// Whether one of the lanes' cells is finite.
+fn some_finite(lanes: &[Cost]) -> bool
+    ensures { λ r. ⌜ (r ≡ false → AllNone (now (lanes .entry))) ⌝ }
+{
+    let mut found = false;
+    let mut i = 0;
+    while i < lanes.len() {
+        found = found | (lanes[i] < WORKING_NONE);
+        i += 1;
+    }
+    found
+}
+
+// The cells of four sets are lowered along the legs until no leg gives less; where all of them are "none", none does. The lanes have four entries for
+// each site.
 fn close_four(
     starts: &[u16],
     ends: &[u16],
@@ -54,6 +72,9 @@ fn close_four(
         (FourClosed n arcs size t (nthNumber sets) (now (cells .entry)) (now (cells .exit)))) ⌝ }
 {
     take_columns(cells, n, size, sets, lanes);
+    if !some_finite(lanes) {
+        return;
+    }
     lower_by_turns(starts, weights, index, places, n, lanes);
     settle(starts, ends, weights, arcs, n, lanes);
     give_columns(lanes, n, size, sets, cells);
