@@ -8,6 +8,7 @@ use lanes::set_lanes;
 use limits::Cost;
 use working_none::WORKING_NONE;
 ghost use mathlib.Core.Path.{_≡_};
+ghost use mathlib.Core.Bool.{false};
 ghost use Prim.Native.Nat.{_+_, _*_, _<_, _≤_};
 ghost use lib.ListN.{length};
 ghost use Rattle.limits.specs.Limits.{maxNodes, maxSubsets};
@@ -15,7 +16,7 @@ ghost use Rattle.order_ranges.specs.laws.Ranges.{Ordered, OneSize, entryOf};
 ghost use Rattle.working_none.specs.laws.Low.{AllLow};
 ghost use Rattle.lanes.specs.laws.Four.{nth, nthNumber, FourLow};
 ghost use Rattle.lanes.specs.laws.WriteFour.{writeRows};
-ghost use Rattle.splits.specs.laws.FourRows.{sumFour, rowsAt, cellsAt, Rows, RowsTaken, setCosts, FourCosts, bothFinite};
+ghost use Rattle.splits.specs.laws.FourRows.{sumFour, rowsAt, cellsAt, Rows, RowsTaken, NoTerminal, setCosts, FourCosts, bothFinite};
 ghost use Rattle.splits.specs.laws.BestSplit.{BestSplits};
 ghost use Rattle.splits.specs.laws.SplitRows.{FourSplit, SplitTo};
 
@@ -80,6 +81,21 @@ fn both_finite(x: Four, y: Four) -> bool
         | ((x.d < WORKING_NONE) & (y.d < WORKING_NONE))
 }
 
+// Whether one of four sites has a finite cell of one station.
+fn some_station(cells: &[Cost], size: usize, rows: FourNumbers) -> bool
+    requires { ⌜ Rows (now cells) size (nthNumber rows) ⌝ }
+    ensures { λ r. ⌜ (r ≡ false → NoTerminal (now (cells .entry)) size (nthNumber rows)) ⌝ }
+{
+    let mut found = false;
+    let mut one = 1;
+    while one < size {
+        let costs = read_rows(cells, size, rows, one);
+        found = found | both_finite(costs, costs);
+        one += one;
+    }
+    found
+}
+
 // Of each of four sites, the least of the cell of the set w and of its splits into two parts, by their greater part. Where the first split has at each
 // site a part that is "none", so has every other one, and they are not tried.
 fn best_splits(by_set: &[Cost], w: usize) -> Four
@@ -99,8 +115,8 @@ fn best_splits(by_set: &[Cost], w: usize) -> Four
     best
 }
 
-// Each set at the positions from `first` up to `last` of the order, which have one size: its cells at four sites become these least ones. There are
-// four entries for each set in `by_set`.
+// Each set at the positions from `first` up to `last` of the order, which have one size: its cells at four sites become these least ones. Where
+// the sites have no finite cell of one station, they have none of more. There are four entries for each set in `by_set`.
 fn split_four(
     sets: &[u16],
     size: usize,
@@ -114,6 +130,9 @@ fn split_four(
         × (0 < first) × Rows (now cells) size (nthNumber rows) × (size * 4 ≤ length (now «by_set»)) ⌝ }
     ensures { λ _. ⌜ FourSplit (entryOf (now (sets .entry))) first last size (nthNumber rows) (now (cells .entry)) (now (cells .exit)) ⌝ }
 {
+    if !some_station(cells, size, rows) {
+        return;
+    }
     take_rows(cells, size, rows, by_set);
     let mut position = first;
     while position < last {

@@ -6,7 +6,6 @@ use mathlib.Core.Path.{_≡_, sym, ap, _∙_, subst}
 use mathlib.Core.Logic.{_≢_, _⊎_, inl, inr}
 use native.Mathlib.Omega.{arith}
 use native.Mathlib.Decide.{decLt}
-use lib.Bits.{bitAnd}
 use lib.Pow.{pow-lt, pow-pos}
 use Rattle.subset.specs.Sets.{single, Part}
 use Rattle.subset.specs.laws.Parts.{part-le, difference-part, rest-disjoint, part-and-rest}
@@ -17,7 +16,7 @@ use Rattle.graph.specs.Theorems.{closed-and-supported, tries-start-set, parts-f
 use Rattle.graph.specs.laws.Lowering.{support-lower}
 use Rattle.order_ranges.specs.laws.Ranges.{Ordered, OneSize, Outside, Inside, inside-or-out, part-outside, part-before, earlier-outside}
 use Rattle.settling.specs.laws.ClosedOver.{ArcFrom, ClosedOver}
-use Rattle.splits.specs.laws.BestSplit.{BestSplit, SplitAt, FirstFinite, first-parts}
+use Rattle.splits.specs.laws.BestSplit.{BestSplit, SplitAt, PartsFinite}
 
 -- the sets at positions below p are closed, and those from p up to q are started
 pub record Filling (G : Graph) (top : ℕ) (at : ℕ → ℕ) (p q : ℕ) (c : ℕ → ℕ → ℕ) : Type 0 where
@@ -126,19 +125,11 @@ module _ (G : Graph) (sound : Sound G) (free : (v : ℕ) → G .charge v ≡ 0) 
               by-split y (w - y) (h .some-terminal) (λ e. h .not-all (omega arith)) (rest-disjoint w y (h .within)) sum
               (omega (arith, h .makes)) (omega (arith, h .makes)) (omega (arith, h .makes, free v))
 
-      -- the parts of the first split have finite cells where those of another split have
-      first-finite : (v i y : ℕ) → v < G .nodes → first ≤ i → i < last → at i < 2 ^ G .terminals → Part y (at i) → y ≢ 0 → y < at i
-          → c v y < top → c v (at i - y) < top → FirstFinite top (c v) (at i)
-      first-finite v i y on f g small p ny less fy fz =
-          let w : ℕ = at i in
-          let y₀ : ℕ = bitAnd (w - 1) w in
-          let (part, some, not-all) = first-parts w y p ny less in
-          let le = part-le y₀ w part in
-          let finite = parts-finite-alike G sound c top room (F .supported) w small closed-part v y on p ny (λ e. omega arith) fy fz in
-          record {
-            greater = finite y₀ part some not-all;
-            lowest = finite (w - y₀) (difference-part w y₀ part) (λ e. not-all (omega arith)) (λ e. some (omega arith));
-          }
+      -- all proper parts have finite cells where those of one split have
+      all-finite : (v i y : ℕ) → v < G .nodes → first ≤ i → i < last → at i < 2 ^ G .terminals → Part y (at i) → y ≢ 0 → y ≢ at i
+          → c v y < top → c v (at i - y) < top → PartsFinite top (c v) (at i)
+      all-finite v i y on f g small p ny ne fy fz =
+          record { each = parts-finite-alike G sound c top room (F .supported) (at i) small closed-part v y on p ny ne fy fz }
         where
           closed-part : (z : ℕ) → Part z (at i) → z ≢ 0 → z ≢ at i → ClosedSet G c z
           closed-part z p nz ne =
@@ -157,7 +148,7 @@ module _ (G : Graph) (sound : Sound G) (free : (v : ℕ) → G .charge v ≡ 0) 
           let back : w - (w - y) ≡ y = omega arith in
           let sy : d v y ≡ c v y = part-same F (S .others) low i f g small v y on p (λ e. omega arith) in
           let sz : d v (w - y) ≡ c v (w - y) = part-same F (S .others) low i f g small v (w - y) on q (λ e. ny (omega arith)) in
-          let finite = first-finite v i y on f g small p ny (omega arith) (omega arith) (omega arith) in
+          let finite = all-finite v i y on f g small p ny (λ e. omega arith) (omega arith) (omega arith) in
           omega (arith, S .each v i on f g .least finite (w - y) q (omega arith) (omega arith), ap (c v) back, free v))
           (λ v on. still-capped F (S .others) low v (at i) on small)
           (λ v y on ny p. omega (arith, free v))

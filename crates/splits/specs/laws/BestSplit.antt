@@ -1,5 +1,5 @@
 -- The least that a set costs at a node by itself or by a split into two parts, from the costs of the sets there; the splits are tried by their
--- greater part, in falling order, unless the first one shows that none needs to be tried.
+-- greater part, in falling order, unless the first one, or the terminals by themselves, show that none needs to be tried.
 -- Assumes nothing.
 use Prim.Native.Nat.{ℕ, _+_, _-_, _≤_, _<_, min}
 use mathlib.Core.Path.{_≡_, refl, sym, ap, ap₂, _∙_, subst}
@@ -9,8 +9,8 @@ use mathlib.Core.List.{List}
 use native.Mathlib.Omega.{arith}
 use native.Mathlib.Decide.{ℕ-discrete, decLt}
 use lib.Bits.{bitAnd, and-self, and-le-l}
-use Rattle.subset.specs.Sets.{Part}
-use Rattle.subset.specs.laws.Parts.{part-le}
+use Rattle.subset.specs.Sets.{Part, single}
+use Rattle.subset.specs.laws.Parts.{part-le, part-has, single-part, single-ne, terminals-lt, difference-part}
 use Rattle.subset.specs.laws.Falling.{common-part, next-part}
 use Rattle.lanes.specs.declared.Four.{Four}
 use Rattle.lanes.specs.laws.Four.{nth, lessFour, less-nth}
@@ -25,24 +25,14 @@ pub record SplitAt (f : ℕ → ℕ) (w r : ℕ) : Type 0 where
   pub not-all : part ≢ w
   pub makes : r ≡ f part + f (w - part)
 
--- both parts of the first split, into w without its lowest terminal and this one, have costs below `top`
-pub record FirstFinite (top : ℕ) (f : ℕ → ℕ) (w : ℕ) : Type 0 where
-  pub greater : f (bitAnd (w - 1) w) < top
-  pub lowest : f (w - bitAnd (w - 1) w) < top
+-- all proper parts of w that are not empty have costs below `top`
+pub record PartsFinite (top : ℕ) (f : ℕ → ℕ) (w : ℕ) : Type 0 where
+  pub each : (y : ℕ) → Part y w → y ≢ 0 → y ≢ w → f y < top
 
--- where a set has a proper part, the first split has two
-pub first-parts : (w y : ℕ) → Part y w → y ≢ 0 → y < w
-    → Part (bitAnd (w - 1) w) w × (bitAnd (w - 1) w ≢ 0) × (bitAnd (w - 1) w ≢ w)
-first-parts w y p ny l =
-    let some = next-part w w y (and-self w) p l in
-    let less : bitAnd (w - 1) w ≤ w - 1 = and-le-l (w - 1) w in
-    (common-part (w - 1) w, λ e. ny (omega arith), λ e. omega arith)
-
--- r is the cost of w or of one of its splits, where the set y costs f y; and the least of them, where the parts of the first split have costs below
--- `top`
+-- r is the cost of w or of one of its splits, where the set y costs f y; and the least of them, where all parts have costs below `top`
 pub record BestSplit (top : ℕ) (f : ℕ → ℕ) (w r : ℕ) : Type 0 where
   pub low : r ≤ f w
-  pub least : FirstFinite top f w → (y : ℕ) → Part y w → y < w → w < y + y → r ≤ f y + f (w - y)
+  pub least : PartsFinite top f w → (y : ℕ) → Part y w → y < w → w < y + y → r ≤ f y + f (w - y)
   pub from : (r ≡ f w) ⊎ SplitAt f w r
 
 -- the costs of the set and of its parts are all that counts
@@ -52,14 +42,12 @@ pub best-split-same : (top : ℕ) (f g : ℕ → ℕ) (w r s : ℕ) → f w ≡ 
 best-split-same top f g w r s own part rest e B = record {
   low = omega (arith, B .low);
   least = λ q y p l d.
-      omega (arith, B .least (same-first q y p l d) y p l d, part y p (λ q. omega arith) (λ q. omega arith), rest y p (λ q. omega arith) (λ q. omega arith));
+      omega (arith, B .least (same-parts q) y p l d, part y p (λ q. omega arith) (λ q. omega arith), rest y p (λ q. omega arith) (λ q. omega arith));
   from = go (B .from);
 }
   where
-    same-first : FirstFinite top g w → (y : ℕ) → Part y w → y < w → w < y + y → FirstFinite top f w
-    same-first q y p l d =
-        let (own-part, some, not-all) = first-parts w y p (λ z. omega arith) l in
-        record { greater = omega (arith, q .greater, part _ own-part some not-all); lowest = omega (arith, q .lowest, rest _ own-part some not-all) }
+    same-parts : PartsFinite top g w → PartsFinite top f w
+    same-parts q = record { each = λ y p ny ne. omega (arith, q .each y p ny ne, part y p ny ne) }
 
     go : (r ≡ f w) ⊎ SplitAt f w r → (s ≡ g w) ⊎ SplitAt g w s
     go (inl q) = inl (sym e ∙ q ∙ own)
@@ -139,9 +127,28 @@ module _ (f : ℕ → ℕ) (w : ℕ) where
   pub tried-all : (top y r : ℕ) → y + y ≤ w → Tried f w y r → BestSplit top f w r
   tried-all top y r d B = record { low = B .low; least = λ q z p l h. B .least z p l (omega arith); from = B .from }
 
-  -- none needs to be tried
-  pub tried-no-more : (top r : ℕ) → r ≡ f w → (FirstFinite top f w → ⊥) → BestSplit top f w r
-  tried-no-more top r e none = record { low = omega arith; least = λ q. absurd (none q); from = inl e }
+  -- none needs to be tried: where there is a proper part, not all are finite
+  no-more : (top r : ℕ) → r ≡ f w → ((y : ℕ) → Part y w → y ≢ 0 → y < w → PartsFinite top f w → ⊥) → BestSplit top f w r
+  no-more top r e none = record { low = omega arith; least = λ q y p l d. absurd (none y p (λ z. omega arith) l q); from = inl e }
+
+  -- the first split, into w without its lowest terminal and this one, has a part that is not finite
+  pub no-first : (top r : ℕ) → r ≡ f w → (f (bitAnd (w - 1) w) < top → f (w - bitAnd (w - 1) w) < top → ⊥) → BestSplit top f w r
+  no-first top r e none = no-more top r e (λ y p ny l q.
+      let y₀ : ℕ = bitAnd (w - 1) w in
+      let part : Part y₀ w = common-part (w - 1) w in
+      let some : y ≤ y₀ = next-part w w y (and-self w) p l in
+      let less : y₀ ≤ w - 1 = and-le-l (w - 1) w in
+      none (q .each y₀ part (λ z. ny (omega arith)) (λ z. omega arith))
+      (q .each (w - y₀) (difference-part w y₀ part) (λ z. omega arith) (λ z. ny (omega arith))))
+
+  -- no terminal is finite by itself
+  pub no-single : (top r : ℕ) → r ≡ f w → ((i : ℕ) → single i ≤ w → top ≤ f (single i)) → BestSplit top f w r
+  no-single top r e none = no-more top r e (λ y p ny l q.
+      let empty : y < 1 = terminals-lt 0 y (λ i t.
+      let own : Part (single i) y = single-part i y t in
+      let le : single i ≤ y = part-le (single i) y own in
+      absurd (omega (arith, none i (omega arith), q .each (single i) (single-part i w (part-has y w p i t)) (single-ne i) (λ z. omega arith)))) in
+      ny (omega arith))
 
 -- ---- at four nodes
 
@@ -184,10 +191,10 @@ module _ {f : ℕ → ℕ → ℕ} {w : ℕ} where
       → bothFinite greater lowest ≡ false → BestSplits f w best
   four-no-more {best} {greater} {lowest} is is-greater is-lowest fails = record {
     each = λ j s.
-        tried-no-more (f j) w workingNone (nth best j) (ap (λ (q : Four). nth q j) is ∙ rows-nth f w j s)
-        (λ q. none-finite greater lowest fails j s
-        (omega (arith, q .greater, ap (λ (g : Four). nth g j) is-greater, rows-nth f (bitAnd (w - 1) w) j s))
-        (omega (arith, q .lowest, ap (λ (g : Four). nth g j) is-lowest, rows-nth f (w - bitAnd (w - 1) w) j s)));
+        no-first (f j) w workingNone (nth best j) (ap (λ (q : Four). nth q j) is ∙ rows-nth f w j s)
+        (λ one other. none-finite greater lowest fails j s
+        (omega (arith, ap (λ (g : Four). nth g j) is-greater, rows-nth f (bitAnd (w - 1) w) j s))
+        (omega (arith, ap (λ (g : Four). nth g j) is-lowest, rows-nth f (w - bitAnd (w - 1) w) j s)));
   }
 
 -- the least costs in a list of the rows of four nodes, set by set, are those in the table

@@ -19,8 +19,8 @@ use Rattle.lanes.specs.laws.Four.{nth, nthNumber, fourFrom, from-nth}
 use Rattle.lanes.specs.laws.WriteFour.{LaneOf, NoLane, lane-or-none, writeRows, four-length, four-low, rows-set, rows-others}
 use Rattle.working_none.specs.laws.WorkingNone.{workingNone}
 use Rattle.working_none.specs.laws.Low.{entry, AllLow}
-use Rattle.splits.specs.laws.BestSplit.{BestSplit, best-split-same, BestSplits}
-use Rattle.splits.specs.laws.FourRows.{cellsAt, Rows}
+use Rattle.splits.specs.laws.BestSplit.{BestSplit, best-split-same, no-single, BestSplits}
+use Rattle.splits.specs.laws.FourRows.{cellsAt, Rows, NoTerminal}
 
 -- ---- one node
 
@@ -59,6 +59,20 @@ module _ {at : ℕ → ℕ} {first size : ℕ} {r : ℕ → ℕ} {before : List 
     same-length = refl;
     low = λ i. omega arith;
     rows = λ j s. record { others = λ w small out. refl; each = λ i a b. absurd (omega arith) };
+    others = λ u y small none. refl;
+  }
+
+  -- where no terminal by itself is finite at one of the nodes, nothing needs to be split
+  pub four-dead : {m last : ℕ} → Ordered at m size → OneSize at m first last → NoTerminal before size r → FourSplit at first last size r before before
+  four-dead O R none = record {
+    same-length = refl;
+    low = λ i. omega arith;
+    rows = λ j s. record {
+      others = λ w small out. refl;
+      each = λ i a b.
+          let small = O .below i (omega (arith, R .bound)) in
+          no-single (cellIn before size (r j)) (at i) workingNone (cellIn before size (r j) (at i)) refl (λ k l. none j k s (omega arith));
+    };
     others = λ u y small none. refl;
   }
 
