@@ -1,14 +1,14 @@
 // The cells of each site, one for each set of stations, are lowered by the splits of the sets of one size into two parts, four sites at a time.
+use finite_sites::four_finite;
+use finite_sites::next_finite;
 use lanes::Four;
 use lanes::FourNumbers;
-use lanes::four_from;
 use lanes::lanes_of;
 use lanes::lesser_of;
 use lanes::set_lanes;
 use limits::Cost;
 use working_none::WORKING_NONE;
 ghost use mathlib.Core.Path.{_≡_};
-ghost use mathlib.Core.Bool.{false};
 ghost use Prim.Native.Nat.{_+_, _*_, _<_, _≤_};
 ghost use lib.ListN.{length};
 ghost use Rattle.limits.specs.Limits.{maxNodes, maxSubsets};
@@ -16,7 +16,7 @@ ghost use Rattle.order_ranges.specs.laws.Ranges.{Ordered, OneSize, entryOf};
 ghost use Rattle.working_none.specs.laws.Low.{AllLow};
 ghost use Rattle.lanes.specs.laws.Four.{nth, nthNumber, FourLow};
 ghost use Rattle.lanes.specs.laws.WriteFour.{writeRows};
-ghost use Rattle.splits.specs.laws.FourRows.{sumFour, rowsAt, cellsAt, Rows, RowsTaken, NoTerminal, setCosts, FourCosts, bothFinite};
+ghost use Rattle.splits.specs.laws.FourRows.{sumFour, rowsAt, cellsAt, Rows, RowsTaken, setCosts, FourCosts, bothFinite};
 ghost use Rattle.splits.specs.laws.BestSplit.{BestSplits};
 ghost use Rattle.splits.specs.laws.SplitRows.{FourSplit, SplitTo};
 
@@ -81,21 +81,6 @@ fn both_finite(x: Four, y: Four) -> bool
         | ((x.d < WORKING_NONE) & (y.d < WORKING_NONE))
 }
 
-// Whether one of four sites has a finite cell of one station.
-fn some_station(cells: &[Cost], size: usize, rows: FourNumbers) -> bool
-    requires { ⌜ Rows (now cells) size (nthNumber rows) ⌝ }
-    ensures { λ r. ⌜ (r ≡ false → NoTerminal (now (cells .entry)) size (nthNumber rows)) ⌝ }
-{
-    let mut found = false;
-    let mut one = 1;
-    while one < size {
-        let costs = read_rows(cells, size, rows, one);
-        found = found | both_finite(costs, costs);
-        one += one;
-    }
-    found
-}
-
 // Of each of four sites, the least of the cell of the set w and of its splits into two parts, by their greater part. Where the first split has at each
 // site a part that is "none", so has every other one, and they are not tried.
 fn best_splits(by_set: &[Cost], w: usize) -> Four
@@ -115,8 +100,8 @@ fn best_splits(by_set: &[Cost], w: usize) -> Four
     best
 }
 
-// Each set at the positions from `first` up to `last` of the order, which have one size: its cells at four sites become these least ones. Where
-// the sites have no finite cell of one station, they have none of more. There are four entries for each set in `by_set`.
+// Each set at the positions from `first` up to `last` of the order, which have one size: its cells at four sites become these least ones. There are
+// four entries for each set in `by_set`.
 fn split_four(
     sets: &[u16],
     size: usize,
@@ -130,9 +115,6 @@ fn split_four(
         × (0 < first) × Rows (now cells) size (nthNumber rows) × (size * 4 ≤ length (now «by_set»)) ⌝ }
     ensures { λ _. ⌜ FourSplit (entryOf (now (sets .entry))) first last size (nthNumber rows) (now (cells .entry)) (now (cells .exit)) ⌝ }
 {
-    if !some_station(cells, size, rows) {
-        return;
-    }
     take_rows(cells, size, rows, by_set);
     let mut position = first;
     while position < last {
@@ -142,7 +124,8 @@ fn split_four(
     }
 }
 
-// The splits of the sets of one size at all sites. There are four entries for each set in `by_set`.
+// The splits of the sets of one size at all sites. A site without a finite cell of one station has none of more. There are four entries for each set in
+// `by_set`.
 pub fn split_rows(
     sets: &[u16],
     n: usize,
@@ -157,9 +140,11 @@ pub fn split_rows(
         × (size * 4 ≤ length (now «by_set»)) ⌝ }
     ensures { λ _. ⌜ SplitTo (entryOf (now (sets .entry))) first last n size n (now (cells .entry)) (now (cells .exit)) ⌝ }
 {
-    let mut v: usize = 0;
+    let mut v = next_finite(cells, size, n, 0);
     while v < n {
-        split_four(sets, size, four_from(v, n), first, last, cells, by_set);
-        v += 4;
+        let four = four_finite(cells, size, n, v);
+        let end = four.d + 1;
+        split_four(sets, size, four, first, last, cells, by_set);
+        v = next_finite(cells, size, n, end);
     }
 }

@@ -1,6 +1,6 @@
 -- `columns::some_finite` meets its contract. The loop's invariant: where nothing is found so far, the entries before i are "none".
 -- Assumes nothing.
-use Prim.Native.Nat.{_-_, _≤_}
+use Prim.Native.Nat.{_-_}
 use mathlib.Core.Path.{_≡_}
 use mathlib.Core.Bool.{false}
 use native.Mathlib.Omega.{arith}

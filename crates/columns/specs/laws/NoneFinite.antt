@@ -11,7 +11,6 @@ use borrow.Author.Tests.{ltb-false}
 use lib.Dec.{ltb}
 use lib.ListN.{length}
 use Rattle.lent_tables.specs.SheetTables.{SheetTables}
-use Rattle.cost_table.specs.Cells.{cellIn}
 use Rattle.lanes.specs.laws.Columns.{ColumnsTaken}
 use Rattle.working_none.specs.laws.WorkingNone.{workingNone}
 use Rattle.working_none.specs.laws.Low.{entry}

@@ -1,9 +1,9 @@
 -- `splits::best_splits` meets its contract. The loop's invariant: the splits by the parts above y have been tried. The measure is y.
 -- Assumes nothing.
-use Prim.Native.Nat.{_-_, _≤_}
+use Prim.Native.Nat.{_-_}
 use mathlib.Core.Path.{sym, _∙_}
 use native.Mathlib.Omega.{arith}
-use lib.Bits.{and-le-l, bitAnd}
+use lib.Bits.{and-le-l}
 use borrow.Author.Needs.{needs}
 use borrow.Author.Tests.{not-true}
 use Rattle.splits.specs.laws.FourRows.{setCosts, costs-low}

@@ -4,9 +4,8 @@ use Prim.Native.Nat.{_-_}
 use mathlib.Core.Path.{_≡_, refl, _∙_}
 use native.Mathlib.Omega.{arith}
 use lib.ListN.{length}
-use borrow.Author.Needs.{needs}
 use Rattle.order_ranges.specs.laws.Ranges.{entryOf}
-use Rattle.splits.specs.laws.SplitRows.{SplitTo, to-none, next-rows, to-next, to-all}
+use Rattle.splits.specs.laws.SplitRows.{SplitTo, to-first, next-rows, to-next, to-all}
 use Rattle.splits.proofs.split_rows.Statement.{statement}
 use Rattle.splits.proofs.split_rows.Tie as tie
 
@@ -16,33 +15,44 @@ Inv-loop sets n size first last cells₀ by-set₀ v₀ cells by-set v = (length
 abbrev μ-loop : tie.MeasureT-loop
 μ-loop sets n size first last cells₀ by-set₀ v₀ cells by-set v = n - v
 
-loop-holds : tie.Need-loop-holds Inv-loop μ-loop
-loop-holds c = (refl, to-none)
+next-finite-requires : tie.Need-next-finite-requires Inv-loop μ-loop
+next-finite-requires c κs = let p = c .before .before .before .before .pre in (omega (arith, p .5), p .4, omega arith)
 
-four-from-requires : tie.Need-four-from-requires Inv-loop μ-loop
-four-from-requires c κs = (c .loop-test .taken, omega (arith, c .before .before .before .before .before .pre .3))
+loop-holds : tie.Need-loop-holds Inv-loop μ-loop
+loop-holds c = let p = c .before .before .before .before .before .pre in (refl, to-first (p .0) (p .1) (c .next-finite .ensures))
+
+four-finite-requires : tie.Need-four-finite-requires Inv-loop μ-loop
+four-finite-requires c κs =
+    let p = c .before .before .before .before .before .before .before .before .pre in
+    (omega (arith, p .5, c .before .before .loop .inv .1 .same-length), p .4, c .before .loop-test .taken, p .3)
+
+add-end : tie.Need-add-end Inv-loop μ-loop
+add-end c = omega (arith, c .before .four-finite .ensures .within, c .before .before .before .before .before .before .before .before .before .before .pre .3)
 
 split-four-requires : tie.Need-split-four-requires Inv-loop μ-loop
 split-four-requires c κs =
-    let turn = c .before .before .before .before in
-    let start = turn .before .before .before .before in
-    let p = start .pre in
-    (p .0, p .1, p .2, next-rows (c .before .before .before .loop-test .taken) (p .5) (turn .loop .inv .1) (c .before .before .four-from .ensures) (p .4) (p .6), omega (arith, p .7, turn .loop .inv .0))
+    let turn = c .before .before .before .before .before .before in
+    let p = turn .before .before .before .before .before .before .pre in
+    (p .0, p .1, p .2, next-rows (p .0) (p .1) (p .5) (turn .loop .inv .1) (c .before .before .before .four-finite .ensures) (p .4) (p .6), omega (arith, p .7, turn .loop .inv .0))
 
-add-v : tie.Need-add-v Inv-loop μ-loop
-add-v c = omega (arith, c .before .before .before .before .before .before .before .before .loop-test .taken, c .before .before .before .before .before .before .before .before .before .before .before .before .before .pre .3)
+next-finite-requires-2 : tie.Need-next-finite-requires-2 Inv-loop μ-loop
+next-finite-requires-2 c κs =
+    let turn = c .before .before .before .before .before .before .before .before .before .before .before .before in
+    let p = turn .before .before .before .before .before .before .pre in
+    (omega (arith, p .5, turn .loop .inv .1 .same-length, c .before .before .before .before .before .split-four .ensures .same-length), p .4, omega (arith, c .before .before .before .before .before .before .before .before .before .four-finite .ensures .within))
 
 loop-less : tie.Need-loop-less Inv-loop μ-loop
-loop-less c = search needs
+loop-less c =
+    let four = c .before .before .before .before .before .before .before .before .before .before .four-finite .ensures in
+    omega (arith, c .before .before .before .before .before .before .before .before .before .before .before .before .loop-test .taken, c .next-finite2 .ensures .onward, four .low 3 (omega arith))
 
 loop-again : tie.Need-loop-again Inv-loop μ-loop
 loop-again c =
-    let made = c .before .before .before .before in
-    let chosen = made .before .before .before in
-    let tested = chosen .before in
-    let turn = tested .before in
-    let start = turn .before .before .before .before in
-    (made .split-four .kept .1 .1 .1 .1 .1 .1 .0 ∙ turn .loop .inv .0, to-next (tested .loop-test .taken) (start .pre .5) (turn .loop .inv .1) (chosen .four-from .ensures) (start .pre .0) (start .pre .1) (made .split-four .ensures))
+    let made = c .before .before .before .before .before .before in
+    let four = c .before .before .before .before .before .before .before .before .before .before .four-finite .ensures in
+    let turn = c .before .before .before .before .before .before .before .before .before .before .before .before .before in
+    let p = turn .before .before .before .before .before .before .pre in
+    (made .split-four .kept .1 .1 .1 .1 .1 .1 .0 ∙ turn .loop .inv .0, to-next (p .0) (p .1) (p .5) (turn .loop .inv .1) four (made .split-four .ensures) (c .next-finite2 .ensures))
 
 same-length : tie.Need-same-length Inv-loop μ-loop
 same-length c = c .before .loop .inv .1 .same-length
@@ -59,10 +69,12 @@ split-rows-spec =
     (tie.spec
     Inv-loop
     μ-loop
+    next-finite-requires
     loop-holds
-    four-from-requires
+    four-finite-requires
+    add-end
     split-four-requires
-    add-v
+    next-finite-requires-2
     loop-less
     loop-again
     same-length

@@ -1,19 +1,15 @@
 -- The costs of one set at four nodes: added, tested, in the rows of a table, and in a list that has four for each set; and what is asked of the table
 -- and of the list.
 -- Assumes nothing.
-use Prim.Native.Nat.{ℕ, suc, _+_, _*_, _≤_, _<_}
-use mathlib.Core.Path.{_≡_, refl, sym, ap, _∙_, subst}
+use Prim.Native.Nat.{ℕ, _+_, _*_, _≤_, _<_}
+use mathlib.Core.Path.{_≡_, refl, sym, subst}
 use mathlib.Core.Bool.{Bool, true, false, _&&_, _||_, true≢false}
 use mathlib.Core.List.{List}
 use native.Mathlib.Omega.{arith}
-use native.Mathlib.Decide.{ℕ-discrete, decLt}
-use native.Mathlib.Nat.{pow-suc}
 use borrow.Author.Tests.{lt-ltb}
 use lib.Dec.{ltb}
 use lib.ListN.{length}
-use lib.Pow.{pow-mono}
 use Rattle.limits.specs.Limits.{maxSubsets}
-use Rattle.subset.specs.Sets.{single}
 use Rattle.cost_table.specs.Cells.{cellIn}
 use Rattle.lanes.specs.declared.Four.{Four}
 use Rattle.lanes.specs.laws.Four.{nth, fourOf, FourLow, below-four}
@@ -79,55 +75,6 @@ pub record Rows (cells : List ℕ) (size : ℕ) (r : ℕ → ℕ) : Type 0 where
 pub rows-fit : {cells : List ℕ} {size w : ℕ} {r : ℕ → ℕ} → Rows cells size r → w < size
     → (r 0 * size + w < length cells) × (r 1 * size + w < length cells) × (r 2 * size + w < length cells) × (r 3 * size + w < length cells)
 rows-fit {w = w} B small = (B .fit 0 w (omega arith) small, B .fit 1 w (omega arith) small, B .fit 2 w (omega arith) small, B .fit 3 w (omega arith) small)
-
--- the terminals below the number p are not finite by themselves at any of the nodes
-abbrev pub NoTerminalTo : (cells : List ℕ) → (size : ℕ) → (r : ℕ → ℕ) → (p : ℕ) → Type 0
-NoTerminalTo cells size r p = (j i : ℕ) → j < 4 → i < p → workingNone ≤ cellsAt cells size r j (single i)
-
--- none is
-abbrev pub NoTerminal : (cells : List ℕ) → (size : ℕ) → (r : ℕ → ℕ) → Type 0
-NoTerminal cells size r = (j i : ℕ) → j < 4 → single i < size → workingNone ≤ cellsAt cells size r j (single i)
-
--- the terminals so far were looked at, with `one` as the set of the next one; nothing is found where none of them is finite
-pub record LookedAt (cells : List ℕ) (size : ℕ) (r : ℕ → ℕ) (found : Bool) (one : ℕ) : Type 0 where
-  pub next : ℕ
-  pub is : one ≡ single next
-  pub none : found ≡ false → NoTerminalTo cells size r next
-
-module _ {cells : List ℕ} {size : ℕ} {r : ℕ → ℕ} where
-  pub looked-none : LookedAt cells size r false 1
-  looked-none = record { next = 0; is = refl; none = λ e j i s l. absurd (omega arith) }
-
-  pub looked-next : {found finite : Bool} {one : ℕ} {costs : Four} → LookedAt cells size r found one → costs ≡ rowsAt (cellsAt cells size r) one
-      → finite ≡ bothFinite costs costs → LookedAt cells size r (found || finite) (one + one)
-  looked-next {found} {finite} {one} {costs} L is tested = record {
-    next = suc (L .next);
-    is = ap (λ (x : ℕ). x + x) (L .is) ∙ omega (arith, pow-suc 2 (L .next));
-    none = go found refl;
-  }
-    where
-      go : (b : Bool) → found ≡ b → b || finite ≡ false → NoTerminalTo cells size r (suc (L .next))
-      go true e q = absurd (true≢false q)
-      go false e q = λ j i s l. at j i s l (ℕ-discrete i (L .next)) (decLt (nth costs j) workingNone)
-        where
-          at : (j i : ℕ) → j < 4 → i < suc (L .next) → Dec (i ≡ L .next) → Dec (nth costs j < workingNone) → workingNone ≤ cellsAt cells size r j (single i)
-          at j i s l (no ne) d = L .none e j i s (omega arith)
-          at j i s l (yes z) (yes low) = absurd (none-finite costs costs (sym tested ∙ q) j s low low)
-          at j i s l (yes z) (no high) =
-              omega (
-                arith,
-                ap (λ (f : Four). nth f j) is,
-                rows-nth (cellsAt cells size r) one j s,
-                ap (cellsAt cells size r j) (L .is),
-                ap (λ (x : ℕ). cellsAt cells size r j (single x)) z,
-              )
-
-  pub looked-all : {found : Bool} {one : ℕ} → LookedAt cells size r found one → size ≤ one → found ≡ false → NoTerminal cells size r
-  looked-all {found} {one} L high e j i s small = go (decLt i (L .next))
-    where
-      go : Dec (i < L .next) → workingNone ≤ cellsAt cells size r j (single i)
-      go (yes l) = L .none e j i s l
-      go (no l) = absurd (omega (arith, L .is, pow-mono {i = L .next} {j = i} (omega arith)))
 
 -- ---- in a list with four costs for each set
 

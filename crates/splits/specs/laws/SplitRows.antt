@@ -1,6 +1,6 @@
 -- The splits of the sets at a range of positions, in the cells of one node, of four nodes, and of all nodes.
 -- Assumes nothing.
-use Prim.Native.Nat.{ℕ, _+_, _-_, _*_, _≤_, _<_, min}
+use Prim.Native.Nat.{ℕ, _+_, _*_, _≤_, _<_}
 use mathlib.Core.Path.{_≡_, refl, sym, ap, _∙_, subst}
 use mathlib.Core.Logic.{_≢_, _⊎_, inl, inr}
 use mathlib.Core.List.{List}
@@ -8,19 +8,19 @@ use native.Mathlib.Omega.{arith}
 use native.Mathlib.Decide.{ℕ-discrete, decLt}
 use lib.ListN.{length}
 use Rattle.limits.specs.Limits.{maxSubsets}
-use Rattle.subset.specs.Sets.{Part}
-use Rattle.subset.specs.laws.Parts.{part-le, difference-part}
-use Rattle.order_ranges.specs.laws.Ranges.{Ordered, OneSize, Outside, part-outside}
+use Rattle.subset.specs.Sets.{single}
+use Rattle.subset.specs.laws.Parts.{part-le}
+use Rattle.order_ranges.specs.laws.Ranges.{Ordered, OneSize, Outside}
 use Rattle.cost_table.specs.Cells.{cellIn}
 use Rattle.cost_table.specs.laws.Rows.{place-lt}
 use Rattle.lanes.specs.declared.Four.{Four}
-use Rattle.lanes.specs.declared.FourNumbers.{FourNumbers}
-use Rattle.lanes.specs.laws.Four.{nth, nthNumber, fourFrom, from-nth}
+use Rattle.lanes.specs.laws.Four.{nth}
 use Rattle.lanes.specs.laws.WriteFour.{LaneOf, NoLane, lane-or-none, writeRows, four-length, four-low, rows-set, rows-others}
 use Rattle.working_none.specs.laws.WorkingNone.{workingNone}
 use Rattle.working_none.specs.laws.Low.{entry, AllLow}
 use Rattle.splits.specs.laws.BestSplit.{BestSplit, best-split-same, no-single, BestSplits}
-use Rattle.splits.specs.laws.FourRows.{cellsAt, Rows, NoTerminal}
+use Rattle.splits.specs.laws.FourRows.{cellsAt, Rows}
+use Rattle.finite_sites.specs.laws.Finite.{NoTerminal, NoneBetween, FourFinite}
 
 -- ---- one node
 
@@ -59,20 +59,6 @@ module _ {at : ℕ → ℕ} {first size : ℕ} {r : ℕ → ℕ} {before : List 
     same-length = refl;
     low = λ i. omega arith;
     rows = λ j s. record { others = λ w small out. refl; each = λ i a b. absurd (omega arith) };
-    others = λ u y small none. refl;
-  }
-
-  -- where no terminal by itself is finite at one of the nodes, nothing needs to be split
-  pub four-dead : {m last : ℕ} → Ordered at m size → OneSize at m first last → NoTerminal before size r → FourSplit at first last size r before before
-  four-dead O R none = record {
-    same-length = refl;
-    low = λ i. omega arith;
-    rows = λ j s. record {
-      others = λ w small out. refl;
-      each = λ i a b.
-          let small = O .below i (omega (arith, R .bound)) in
-          no-single (cellIn before size (r j)) (at i) workingNone (cellIn before size (r j) (at i)) refl (λ k l. none j k s (omega arith));
-    };
     others = λ u y small none. refl;
   }
 
@@ -150,39 +136,62 @@ split-same {at} {m} {first} {last} {size} {f} {f'} {g} {g'} O bound sf sg S = re
       (λ y part ny ne. sf (at i - y) (omega arith)) (sg (at i) l) (S .each i a b);
 }
 
-module _ {at : ℕ → ℕ} {first last n size : ℕ} {before : List ℕ} where
-  pub to-none : SplitTo at first last n size 0 before before
-  to-none = record { same-length = refl; low = λ i. omega arith; done = λ u l on. absurd (omega arith); left = λ u y l lu small. refl }
+-- at a node without a finite terminal nothing needs to be split
+split-none : {at : ℕ → ℕ} {m first last size : ℕ} {f : ℕ → ℕ} → Ordered at m size → last ≤ m → NoTerminal f size → SplitCells at first last size f f
+split-none {at} {m} {f = f} O bound none = record {
+  others = λ w small out. refl;
+  each = λ i a b. let small = O .below i (omega arith) in no-single f (at i) workingNone (f (at i)) refl (λ k l. none k (omega arith));
+}
 
-  module _ {v : ℕ} {four : FourNumbers} {mid : List ℕ} (on : v < n) (whole : length before ≡ n * size) (S : SplitTo at first last n size v before mid)
-      (is : four ≡ fourFrom v n) where
-    nodes : (j : ℕ) → j < 4 → nthNumber four j ≡ min (v + j) (n - 1)
-    nodes j s = ap (λ (f : FourNumbers). nthNumber f j) is ∙ from-nth v n j on s
+module _ {at : ℕ → ℕ} {m first last n size : ℕ} {before : List ℕ} (O : Ordered at m size) (R : OneSize at m first last) where
+  pub to-first : {v : ℕ} → NoneBetween (cellIn before size) size n 0 v → SplitTo at first last n size v before before
+  to-first D = record {
+    same-length = refl;
+    low = λ i. omega arith;
+    done = λ u l on. split-none O (R .bound) (D .none u (omega arith) l);
+    left = λ u y l lu small. refl;
+  }
 
+  module _ {v : ℕ} {r : ℕ → ℕ} {mid : List ℕ} (whole : length before ≡ n * size) (S : SplitTo at first last n size v before mid)
+      (L : FourFinite (cellIn mid size) size n v r) where
     -- what is asked of the next four
-    pub next-rows : size ≤ maxSubsets → AllLow before → Rows mid size (nthNumber four)
+    pub next-rows : size ≤ maxSubsets → AllLow before → Rows mid size r
     next-rows few low = record {
       few = few;
-      fit = λ j w s small. place-lt (nthNumber four j) n size w (length mid) (omega (arith, nodes j s)) small (omega (arith, S .same-length));
+      fit = λ j w s small. place-lt (r j) n size w (length mid) (omega (arith, L .high j s, L .within)) small (omega (arith, S .same-length));
       low = λ i l. omega (arith, S .low i, low i (omega (arith, S .same-length)));
     }
 
-    pub to-next : {m : ℕ} {after : List ℕ} → Ordered at m size → OneSize at m first last → FourSplit at first last size (nthNumber four) mid after
-        → SplitTo at first last n size (v + 4) before after
-    to-next {m} {after} O R F = record {
+    pub to-next : {v' : ℕ} {after : List ℕ} → FourSplit at first last size r mid after → NoneBetween (cellIn after size) size n (r 3 + 1) v'
+        → SplitTo at first last n size v' before after
+    to-next {v'} {after} F D = record {
       same-length = F .same-length ∙ S .same-length;
       low = λ i. omega (arith, F .low i, S .low i);
-      done = λ u l lu. go u l lu (decLt u v);
-      left = λ u y l lu small. F .others u y small (λ j s e. omega (arith, nodes j s)) ∙ S .left u y (omega arith) lu small;
+      done = λ u l lu. go u l lu (decLt u v) (decLt (r 3) u) (lane-or-none r u);
+      left = λ u y l lu small. F .others u y small (λ j s e. omega (arith, L .high j s, D .onward)) ∙ S .left u y (omega (arith, D .onward, L .low 3 (omega arith))) lu small;
     }
       where
-        go : (u : ℕ) → u < v + 4 → u < n → Dec (u < v) → SplitCells at first last size (cellIn before size u) (cellIn after size u)
-        go u l lu (yes b) =
-            split-same O (R .bound) (λ w small. refl) (λ w small. sym (F .others u w small (λ j s e. omega (arith, nodes j s)))) (S .done u b lu)
-        go u l lu (no b) =
-            let e : nthNumber four (u - v) ≡ u = omega (arith, nodes (u - v) (omega arith)) in
+        -- a node that is none of the four is as it was
+        same : (u : ℕ) → v ≤ u → u < n → NoLane r u → (w : ℕ) → w < size → cellIn after size u w ≡ cellIn before size u w
+        same u a lu none w small = F .others u w small (none .none) ∙ S .left u w a lu small
+
+        unsplit : (u : ℕ) → v ≤ u → u < n → NoLane r u → NoTerminal (cellIn before size u) size
+            → SplitCells at first last size (cellIn before size u) (cellIn after size u)
+        unsplit u a lu none dead = split-same O (R .bound) (λ w small. refl) (λ w small. sym (same u a lu none w small)) (split-none O (R .bound) dead)
+
+        go : (u : ℕ) → u < v' → u < n → Dec (u < v) → Dec (r 3 < u) → LaneOf r u ⊎ NoLane r u
+            → SplitCells at first last size (cellIn before size u) (cellIn after size u)
+        go u l lu (yes b) d k =
+            split-same O (R .bound) (λ w small. refl) (λ w small. sym (F .others u w small (λ j s e. omega (arith, L .low j s)))) (S .done u b lu)
+        go u l lu (no b) d (inl k) =
             split-same O (R .bound) (λ w small. S .left u w (omega arith) lu small) (λ w small. refl)
-            (subst (λ (x : ℕ). SplitCells at first last size (cellIn mid size x) (cellIn after size x)) e (F .rows (u - v) (omega arith)))
+            (subst (λ (x : ℕ). SplitCells at first last size (cellIn mid size x) (cellIn after size x)) (k .same) (F .rows (k .lane) (k .small)))
+        go u l lu (no b) (no h) (inr k) =
+            unsplit u (omega arith) lu k
+            (λ i small. omega (arith, L .none u (omega arith) (omega arith) (k .none) i small, S .left u (single i) (omega arith) lu small))
+        go u l lu (no b) (yes h) (inr k) =
+            unsplit u (omega arith) lu k
+            (λ i small. omega (arith, D .none u (omega arith) l i small, same u (omega arith) lu k (single i) small))
 
 pub to-all : {at : ℕ → ℕ} {first last n size v : ℕ} {before after : List ℕ} → n ≤ v → SplitTo at first last n size v before after
     → SplitTo at first last n size n before after
