@@ -1,4 +1,3 @@
--- the splits of one set, four cells of a set, and the splits of the sets of one size
-pub mod BestSplit
+-- the rows of four nodes, and the splits of the sets of one size
 pub mod FourRows
 pub mod SplitRows

@@ -3,35 +3,20 @@ use finite_sites::four_finite;
 use finite_sites::next_finite;
 use lanes::Four;
 use lanes::FourNumbers;
-use lanes::lanes_of;
-use lanes::lesser_of;
 use lanes::set_lanes;
 use limits::Cost;
-use working_none::WORKING_NONE;
+use set_splits::best_splits;
 ghost use mathlib.Core.Path.{_≡_};
 ghost use Prim.Native.Nat.{_+_, _*_, _<_, _≤_};
 ghost use lib.ListN.{length};
 ghost use Rattle.limits.specs.Limits.{maxNodes, maxSubsets};
 ghost use Rattle.order_ranges.specs.laws.Ranges.{Ordered, OneSize, entryOf};
 ghost use Rattle.working_none.specs.laws.Low.{AllLow};
-ghost use Rattle.lanes.specs.laws.Four.{nth, nthNumber, FourLow};
+ghost use Rattle.lanes.specs.laws.Four.{nth, nthNumber};
 ghost use Rattle.lanes.specs.laws.WriteFour.{writeRows};
-ghost use Rattle.splits.specs.laws.FourRows.{sumFour, rowsAt, cellsAt, Rows, RowsTaken, setCosts, FourCosts, bothFinite};
-ghost use Rattle.splits.specs.laws.BestSplit.{BestSplits};
+ghost use Rattle.set_splits.specs.laws.FourCosts.{rowsAt};
+ghost use Rattle.splits.specs.laws.FourRows.{cellsAt, Rows, RowsTaken};
 ghost use Rattle.splits.specs.laws.SplitRows.{FourSplit, SplitTo};
-
-// Four costs and four costs, added.
-fn sum_of(x: Four, y: Four) -> Four
-    requires { ⌜ FourLow x × FourLow y ⌝ }
-    ensures { λ r. ⌜ r ≡ sumFour x y ⌝ }
-{
-    Four {
-        a: x.a + y.a,
-        b: x.b + y.b,
-        c: x.c + y.c,
-        d: x.d + y.d,
-    }
-}
 
 // The cells of four sites and the set w, in a table with so many cells for each site.
 fn read_rows(cells: &[Cost], size: usize, rows: FourNumbers, w: usize) -> Four
@@ -69,35 +54,6 @@ fn take_rows(cells: &[Cost], size: usize, rows: FourNumbers, by_set: &mut [Cost]
         set_lanes(by_set, w, read_rows(cells, size, rows, w));
         w += 1;
     }
-}
-
-// Whether at one of four sites both costs are finite.
-fn both_finite(x: Four, y: Four) -> bool
-    ensures { λ r. ⌜ r ≡ bothFinite x y ⌝ }
-{
-    ((x.a < WORKING_NONE) & (y.a < WORKING_NONE))
-        | ((x.b < WORKING_NONE) & (y.b < WORKING_NONE))
-        | ((x.c < WORKING_NONE) & (y.c < WORKING_NONE))
-        | ((x.d < WORKING_NONE) & (y.d < WORKING_NONE))
-}
-
-// Of each of four sites, the least of the cell of the set w and of its splits into two parts, by their greater part. Where the first split has at each
-// site a part that is "none", so has every other one, and they are not tried.
-fn best_splits(by_set: &[Cost], w: usize) -> Four
-    requires { ⌜ FourCosts (now «by_set») w × (0 < w) ⌝ }
-    ensures { λ r. ⌜ BestSplits (setCosts (now («by_set» .entry))) w r ⌝ }
-{
-    let mut best = lanes_of(by_set, w);
-    let mut y = (w - 1) & w;
-    if !both_finite(lanes_of(by_set, y), lanes_of(by_set, w - y)) {
-        return best;
-    }
-    while w < y + y {
-        let sums = sum_of(lanes_of(by_set, y), lanes_of(by_set, w - y));
-        best = lesser_of(sums, best);
-        y = (y - 1) & w;
-    }
-    best
 }
 
 // Each set at the positions from `first` up to `last` of the order, which have one size: its cells at four sites become these least ones. There are

@@ -16,7 +16,7 @@ use Rattle.graph.specs.Theorems.{closed-and-supported, tries-start-set, parts-f
 use Rattle.graph.specs.laws.Lowering.{support-lower}
 use Rattle.order_ranges.specs.laws.Ranges.{Ordered, OneSize, Outside, Inside, inside-or-out, part-outside, part-before, earlier-outside}
 use Rattle.settling.specs.laws.ClosedOver.{ArcFrom, ClosedOver}
-use Rattle.splits.specs.laws.BestSplit.{BestSplit, SplitAt, PartsFinite}
+use Rattle.set_splits.specs.laws.BestSplit.{BestSplit, SplitAt, PartsFinite}
 
 -- the sets at positions below p are closed, and those from p up to q are started
 pub record Filling (G : Graph) (top : ℕ) (at : ℕ → ℕ) (p q : ℕ) (c : ℕ → ℕ → ℕ) : Type 0 where

@@ -8,8 +8,7 @@ use denote.Ref.{now}
 use borrow.Author.Needs.{needs}
 use Rattle.order_ranges.specs.laws.Ranges.{entryOf, not-empty}
 use Rattle.lanes.specs.laws.Four.{nthNumber}
-use Rattle.splits.specs.laws.FourRows.{rows-fit, taken-costs}
-use Rattle.splits.specs.laws.BestSplit.{best-in-table}
+use Rattle.splits.specs.laws.FourRows.{rows-fit, taken-costs, best-in-table}
 use Rattle.splits.specs.laws.SplitRows.{FourSplit, four-none, still-rows, four-next, four-all}
 use Rattle.splits.proofs.split_four.Statement.{statement}
 use Rattle.splits.proofs.split_four.Tie as tie

@@ -1,63 +1,20 @@
--- The costs of one set at four nodes: added, tested, in the rows of a table, and in a list that has four for each set; and what is asked of the table
--- and of the list.
+-- The cells of one set at four nodes of a table, and the rows of four nodes as a list that has four cells for each set; and what is asked of the table.
 -- Assumes nothing.
-use Prim.Native.Nat.{ℕ, _+_, _*_, _≤_, _<_}
-use mathlib.Core.Path.{_≡_, refl, sym, subst}
-use mathlib.Core.Bool.{Bool, true, false, _&&_, _||_, true≢false}
+use Prim.Native.Nat.{ℕ, _+_, _-_, _*_, _≤_, _<_}
+use mathlib.Core.Path.{_≡_, refl}
 use mathlib.Core.List.{List}
 use native.Mathlib.Omega.{arith}
-use borrow.Author.Tests.{lt-ltb}
-use lib.Dec.{ltb}
 use lib.ListN.{length}
 use Rattle.limits.specs.Limits.{maxSubsets}
+use Rattle.subset.specs.laws.Parts.{part-le}
 use Rattle.cost_table.specs.Cells.{cellIn}
 use Rattle.lanes.specs.declared.Four.{Four}
-use Rattle.lanes.specs.laws.Four.{nth, fourOf, FourLow, below-four}
+use Rattle.lanes.specs.laws.Four.{nth}
 use Rattle.lanes.specs.laws.Columns.{Taken}
 use Rattle.working_none.specs.laws.WorkingNone.{workingNone}
 use Rattle.working_none.specs.laws.Low.{AllLow}
-
--- four costs and four costs, added
-abbrev pub sumFour : (x y : Four) → Four
-sumFour x y = record { a = x .a + y .a; b = x .b + y .b; c = x .c + y .c; d = x .d + y .d }
-
-pub sum-nth : (x y : Four) (j : ℕ) → j < 4 → nth (sumFour x y) j ≡ nth x j + nth y j
-sum-nth x y = below-four (λ j. nth (sumFour x y) j ≡ nth x j + nth y j) refl refl refl refl
-
--- the costs of the set w at four nodes, where f j has those of node j
-abbrev pub rowsAt : (f : ℕ → ℕ → ℕ) → (w : ℕ) → Four
-rowsAt f w = record { a = f 0 w; b = f 1 w; c = f 2 w; d = f 3 w }
-
-pub rows-nth : (f : ℕ → ℕ → ℕ) (w j : ℕ) → j < 4 → nth (rowsAt f w) j ≡ f j w
-rows-nth f w = below-four (λ j. nth (rowsAt f w) j ≡ f j w) refl refl refl refl
-
--- ---- two costs that are finite
-
--- both of two costs are
-abbrev pub finite : (x y : ℕ) → Bool
-finite x y = ltb x workingNone && ltb y workingNone
-
--- at one of four nodes both are
-abbrev pub bothFinite : (x y : Four) → Bool
-bothFinite x y = ((finite (x .a) (y .a) || finite (x .b) (y .b)) || finite (x .c) (y .c)) || finite (x .d) (y .d)
-
-finite-true : {x y : ℕ} → x < workingNone → y < workingNone → finite x y ≡ true
-finite-true {x} {y} l r = λ i. lt-ltb x workingNone l i && lt-ltb y workingNone r i
-
--- where the test fails, at none of them
-pub none-finite : (x y : Four) → bothFinite x y ≡ false → (j : ℕ) → j < 4 → nth x j < workingNone → nth y j < workingNone → ⊥
-none-finite x y fails = below-four (λ j. nth x j < workingNone → nth y j < workingNone → ⊥)
-    (λ l r. go (finite (x .a) (y .a)) (finite (x .b) (y .b)) (finite (x .c) (y .c)) (finite (x .d) (y .d)) fails .0 (finite-true l r))
-    (λ l r. go (finite (x .a) (y .a)) (finite (x .b) (y .b)) (finite (x .c) (y .c)) (finite (x .d) (y .d)) fails .1 (finite-true l r))
-    (λ l r. go (finite (x .a) (y .a)) (finite (x .b) (y .b)) (finite (x .c) (y .c)) (finite (x .d) (y .d)) fails .2 (finite-true l r))
-    (λ l r. go (finite (x .a) (y .a)) (finite (x .b) (y .b)) (finite (x .c) (y .c)) (finite (x .d) (y .d)) fails .3 (finite-true l r))
-  where
-    go : (p q r s : Bool) → ((p || q) || r) || s ≡ false → (p ≡ true → ⊥) × (q ≡ true → ⊥) × (r ≡ true → ⊥) × (s ≡ true → ⊥)
-    go true q r s e = absurd (true≢false e)
-    go false true r s e = absurd (true≢false e)
-    go false false true s e = absurd (true≢false e)
-    go false false false true e = absurd (true≢false e)
-    go false false false false e = (λ t. true≢false (sym t), λ t. true≢false (sym t), λ t. true≢false (sym t), λ t. true≢false (sym t))
+use Rattle.set_splits.specs.laws.FourCosts.{setCosts, FourCosts}
+use Rattle.set_splits.specs.laws.BestSplit.{best-split-same, BestSplits}
 
 -- ---- in a table
 
@@ -76,26 +33,11 @@ pub rows-fit : {cells : List ℕ} {size w : ℕ} {r : ℕ → ℕ} → Rows cell
     → (r 0 * size + w < length cells) × (r 1 * size + w < length cells) × (r 2 * size + w < length cells) × (r 3 * size + w < length cells)
 rows-fit {w = w} B small = (B .fit 0 w (omega arith) small, B .fit 1 w (omega arith) small, B .fit 2 w (omega arith) small, B .fit 3 w (omega arith) small)
 
--- ---- in a list with four costs for each set
-
--- the cost of the set w at node j
-abbrev pub setCosts : List ℕ → (j w : ℕ) → ℕ
-setCosts list j w = cellIn list 4 w j
+-- ---- as a list
 
 -- the first w sets have the cells of the nodes r 0 to r 3
 abbrev pub RowsTaken : (cells : List ℕ) → (size : ℕ) → (r : ℕ → ℕ) → (w : ℕ) → (before after : List ℕ) → Type 0
 RowsTaken cells size r w before after = Taken (λ y j. cellsAt cells size r j y) w before after
-
--- the list has the costs of w and of its parts, none of which is above "none"
-pub record FourCosts (list : List ℕ) (w : ℕ) : Type 0 where
-  pub few : w < maxSubsets
-  pub fits : w * 4 + 4 ≤ length list
-  pub low : (j y : ℕ) → j < 4 → y ≤ w → setCosts list j y ≤ workingNone
-
--- what is asked where costs are added
-pub costs-low : {list : List ℕ} {w y : ℕ} {f : Four} → FourCosts list w → y ≤ w → f ≡ fourOf list y → FourLow f
-costs-low {list} {w} {y} C l is =
-    subst FourLow (sym is) (C .low 0 y (omega arith) l, C .low 1 y (omega arith) l, C .low 2 y (omega arith) l, C .low 3 y (omega arith) l)
 
 -- the rows of four nodes, taken set by set, are such a list
 pub taken-costs : {cells before after : List ℕ} {size w : ℕ} {r : ℕ → ℕ} → Rows cells size r → size * 4 ≤ length before → w < size
@@ -104,4 +46,13 @@ taken-costs {size = size} {w} {r} B long small T = record {
   few = omega (arith, B .few);
   fits = omega (arith, T .same-length);
   low = λ j y s l. let on : y < size = omega arith in omega (arith, T .taken y j on s, B .low (r j * size + y) (B .fit j y s on));
+}
+
+-- the least costs in a list of the rows of four nodes, set by set, are those in the table
+pub best-in-table : (cells : List ℕ) (r : ℕ → ℕ) {before after : List ℕ} {size w : ℕ} {best : Four} → w < size → RowsTaken cells size r size before after
+    → BestSplits (setCosts after) w best → BestSplits (cellsAt cells size r) w best
+best-in-table cells r {before} {after} {size} {w} {best} small T B = record {
+  each = λ j s.
+      best-split-same workingNone (setCosts after j) (cellsAt cells size r j) w (nth best j) (nth best j) (T .taken w j small s)
+      (λ y p ny ne. T .taken y j (omega (arith, part-le y w p)) s) (λ y p ny ne. T .taken (w - y) j (omega arith) s) refl (B .each j s);
 }

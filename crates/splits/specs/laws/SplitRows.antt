@@ -18,7 +18,7 @@ use Rattle.lanes.specs.laws.Four.{nth}
 use Rattle.lanes.specs.laws.WriteFour.{LaneOf, NoLane, lane-or-none, writeRows, four-length, four-low, rows-set, rows-others}
 use Rattle.working_none.specs.laws.WorkingNone.{workingNone}
 use Rattle.working_none.specs.laws.Low.{entry, AllLow}
-use Rattle.splits.specs.laws.BestSplit.{BestSplit, best-split-same, no-single, BestSplits}
+use Rattle.set_splits.specs.laws.BestSplit.{BestSplit, best-split-same, no-single, BestSplits}
 use Rattle.splits.specs.laws.FourRows.{cellsAt, Rows}
 use Rattle.finite_sites.specs.laws.Finite.{NoTerminal, NoneBetween, FourFinite}
 

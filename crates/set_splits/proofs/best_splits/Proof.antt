@@ -1,4 +1,4 @@
--- `splits::best_splits` meets its contract. The loop's invariant: the splits by the parts above y have been tried. The measure is y.
+-- `set_splits::best_splits` meets its contract. The loop's invariant: the splits by the parts above y have been tried. The measure is y.
 -- Assumes nothing.
 use Prim.Native.Nat.{_-_}
 use mathlib.Core.Path.{sym, _∙_}
@@ -6,10 +6,10 @@ use native.Mathlib.Omega.{arith}
 use lib.Bits.{and-le-l}
 use borrow.Author.Needs.{needs}
 use borrow.Author.Tests.{not-true}
-use Rattle.splits.specs.laws.FourRows.{setCosts, costs-low}
-use Rattle.splits.specs.laws.BestSplit.{FourTried, four-tried-none, four-tried-next, four-tried-all, four-no-more}
-use Rattle.splits.proofs.best_splits.Statement.{statement}
-use Rattle.splits.proofs.best_splits.Tie as tie
+use Rattle.set_splits.specs.laws.FourCosts.{setCosts, costs-low}
+use Rattle.set_splits.specs.laws.BestSplit.{FourTried, four-tried-none, four-tried-next, four-tried-all, four-no-more}
+use Rattle.set_splits.proofs.best_splits.Statement.{statement}
+use Rattle.set_splits.proofs.best_splits.Tie as tie
 
 abbrev Inv-loop : tie.InvT-loop
 Inv-loop «by_set» w best₀ y₀ best y = FourTried (setCosts «by_set») w y best

@@ -5,7 +5,6 @@ use Prim.Native.Nat.{ℕ, _+_, _-_, _≤_, _<_, min}
 use mathlib.Core.Path.{_≡_, refl, sym, ap, ap₂, _∙_, subst}
 use mathlib.Core.Logic.{_≢_, _⊎_, inl, inr}
 use mathlib.Core.Bool.{false}
-use mathlib.Core.List.{List}
 use native.Mathlib.Omega.{arith}
 use native.Mathlib.Decide.{ℕ-discrete, decLt}
 use lib.Bits.{bitAnd, and-self, and-le-l}
@@ -15,7 +14,7 @@ use Rattle.subset.specs.laws.Falling.{common-part, next-part}
 use Rattle.lanes.specs.declared.Four.{Four}
 use Rattle.lanes.specs.laws.Four.{nth, lessFour, less-nth}
 use Rattle.working_none.specs.laws.WorkingNone.{workingNone}
-use Rattle.splits.specs.laws.FourRows.{sumFour, sum-nth, rowsAt, rows-nth, cellsAt, setCosts, RowsTaken, bothFinite, none-finite}
+use Rattle.set_splits.specs.laws.FourCosts.{sumFour, sum-nth, rowsAt, rows-nth, bothFinite, none-finite}
 
 -- w is split into y and the rest at a cost of r
 pub record SplitAt (f : ℕ → ℕ) (w r : ℕ) : Type 0 where
@@ -196,12 +195,3 @@ module _ {f : ℕ → ℕ → ℕ} {w : ℕ} where
         (omega (arith, ap (λ (g : Four). nth g j) is-greater, rows-nth f (bitAnd (w - 1) w) j s))
         (omega (arith, ap (λ (g : Four). nth g j) is-lowest, rows-nth f (w - bitAnd (w - 1) w) j s)));
   }
-
--- the least costs in a list of the rows of four nodes, set by set, are those in the table
-pub best-in-table : (cells : List ℕ) (r : ℕ → ℕ) {before after : List ℕ} {size w : ℕ} {best : Four} → w < size → RowsTaken cells size r size before after
-    → BestSplits (setCosts after) w best → BestSplits (cellsAt cells size r) w best
-best-in-table cells r {before} {after} {size} {w} {best} small T B = record {
-  each = λ j s.
-      best-split-same workingNone (setCosts after j) (cellsAt cells size r j) w (nth best j) (nth best j) (T .taken w j small s)
-      (λ y p ny ne. T .taken y j (omega (arith, part-le y w p)) s) (λ y p ny ne. T .taken (w - y) j (omega arith) s) refl (B .each j s);
-}
