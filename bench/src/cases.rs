@@ -2,7 +2,9 @@
 
 use uldhvamm::{Lengths, Tables};
 use uldhvamm_bench::compare::Call;
-use uldhvamm_bench::sheets::{bad_reading, chain, filled_sheet, gated_row, grid, random_sheet};
+use uldhvamm_bench::sheets::{
+    among_some, bad_reading, chain, filled_sheet, gated_row, grid, random_sheet,
+};
 use uldhvamm_bench::sheets::{Chain, Order, Sheet};
 
 /// A call with its sheet and the lengths of the lent tables.
@@ -54,6 +56,8 @@ fn random_cases() -> Vec<Case> {
         plan_case("random, prices 1 to 3", random_sheet(2, 1024, 10, 8192, 3)),
         plan_case("random, one price", random_sheet(3, 1024, 10, 8192, 1)),
         plan_case("random, few legs", random_sheet(4, 1024, 10, 2048, 1000)),
+        plan_case("random, among 100 sites", among_some(13, 100, 8192)),
+        plan_case("random, among 30 sites", among_some(14, 30, 8192)),
         plan_case("random", random_sheet(5, 200, 8, 1600, 1000)),
         plan_case("random", random_sheet(6, 64, 7, 512, 1000)),
         plan_case("random", random_sheet(7, 16, 4, 64, 1000)),

@@ -1,5 +1,5 @@
-//! Large sheets of set shapes: random, a grid, a chain, a row behind a gate, a sheet at every limit, one with few senders; and a plan file
-//! that is long to read.
+//! Large sheets of set shapes: random, legs among some of the sites, a grid, a chain, a row behind a gate, a sheet at every limit, one with few
+//! senders; and a plan file that is long to read.
 
 use super::{PlanFile, Random, Record, Sheet};
 
@@ -39,6 +39,22 @@ fn with_landings(random: &mut Random, mut sheet: Sheet) -> Sheet {
         }
     }
     sheet
+}
+
+/// 1,024 sites and 10 stations. Random legs with prices from 1 to 1,000 lead among `joined` sites that lie far apart by their numbers, and each station is
+/// heard at one of these; from the other sites nothing is reached.
+pub fn among_some(seed: u64, joined: usize, legs: usize) -> Sheet {
+    let mut random = Random::new(seed);
+    let mut sheet = Sheet::new(1024, 10);
+    let site = |number: usize| (number * (1023 / joined)) as u16;
+    for _ in 0..legs {
+        let from = random.below(joined);
+        let to = (from + random.between(1, joined - 1)) % joined;
+        sheet = sheet.link(site(from), site(to), random.between(1, 1000) as u32);
+    }
+    (0..10).fold(sheet, |sheet, station| {
+        sheet.landing(station, site(random.below(joined)))
+    })
 }
 
 /// A square of `side` times `side` sites with a leg to each neighbour in 8 directions, prices from 1 to 100.

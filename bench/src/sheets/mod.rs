@@ -9,7 +9,9 @@ mod small;
 
 pub use damage::damaged;
 pub use files::{leg_records, varied_file, PlanFile};
-pub use large::{bad_reading, chain, filled_sheet, gated_row, grid, licensed, random_sheet};
+pub use large::{
+    among_some, bad_reading, chain, filled_sheet, gated_row, grid, licensed, random_sheet,
+};
 pub use large::{Chain, Order};
 pub use questions::{question, random_table, MadeTable};
 pub use random::Random;
