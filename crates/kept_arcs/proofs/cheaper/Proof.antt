@@ -1,0 +1,37 @@
+-- `kept_arcs::cheaper` meets its contract.
+-- Assumes nothing.
+use mathlib.Core.Path.{refl}
+use mathlib.Core.Logic.{inl, inr}
+use native.Mathlib.Omega.{arith}
+use borrow.Author.Needs.{needs}
+use Rattle.kept_arcs.proofs.cheaper.Statement.{statement}
+use Rattle.kept_arcs.proofs.cheaper.Tie as tie
+
+mul-if1 : tie.Need-mul-if1
+mul-if1 c = search needs
+
+shared-slice-read-if1 : tie.Need-shared-slice-read-if1
+shared-slice-read-if1 c = search needs
+
+mul-if1-2 : tie.Need-mul-if1-2
+mul-if1-2 c = search needs
+
+shared-slice-read-if1-2 : tie.Need-shared-slice-read-if1-2
+shared-slice-read-if1-2 c = search needs
+
+returns : tie.Need-returns
+returns c = inr (refl, omega (arith, c .if1 .taken))
+
+returns-2 : tie.Need-returns-2
+returns-2 c = inl (refl, omega (arith, c .if1 .left))
+
+pub cheaper-spec : {M : Type 1} → statement M
+cheaper-spec =
+    tie.close
+    (tie.spec
+    mul-if1
+    shared-slice-read-if1
+    mul-if1-2
+    shared-slice-read-if1-2
+    returns
+    returns-2)
