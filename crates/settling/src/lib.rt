@@ -1,4 +1,4 @@
-// The cells of four sets, four for each site, are lowered along the legs until no leg gives less.
+// The cells of four sets, four for each site, are lowered along the legs of a list until none of them gives less.
 use lanes::Four;
 use lanes::lanes_of;
 use lanes::lesser_of;
@@ -10,7 +10,7 @@ ghost use lib.ListN.{length};
 ghost use Rattle.limits.specs.Limits.{maxWeight};
 ghost use Rattle.lent_tables.specs.SheetTables.{arcsAlone};
 ghost use Rattle.lanes.specs.laws.Four.{fourOf, FourLow};
-ghost use Rattle.settling.specs.laws.Arcs.{ArcLanes, startAt, endAt, weightAt};
+ghost use Rattle.settling.specs.laws.Arcs.{ListLanes, startOf, endOf, weightOf};
 ghost use Rattle.settling.specs.laws.LowerFour.{alongFour, fallsFour, LoweredAt};
 ghost use Rattle.settling.specs.laws.Lowered.{FirstOpen, PassedTo, Settled};
 
@@ -45,53 +45,54 @@ pub fn lower(lanes: &mut [Cost], u: usize, by: Four)
     set_lanes(lanes, u, lesser_of(by, lanes_of(lanes, u)));
 }
 
-// The first leg that gives less, or the number of legs where none does.
+// The first entry of a list of legs whose leg gives less, or the number of entries where none does.
 fn first_open(
     starts: &[u16],
     ends: &[u16],
     weights: &[u32],
-    arcs: usize,
-    n: usize,
+    list: &[u16],
+    count: usize,
     lanes: &[Cost],
 ) -> usize
-    requires { ⌜ (let t = arcsAlone (now starts) (now ends) (now weights) in
-        (ArcLanes n arcs t (now lanes))) ⌝ }
+    requires { ⌜ ListLanes (arcsAlone (now starts) (now ends) (now weights)) (now list) count (now lanes) ⌝ }
     ensures { λ r. ⌜ (let t = arcsAlone (now (starts .entry)) (now (ends .entry)) (now (weights .entry)) in
-        (FirstOpen arcs (startAt t) (endAt t) (weightAt t) (now (lanes .entry)) r)) ⌝ }
+        (FirstOpen count (startOf t (now (list .entry))) (endOf t (now (list .entry))) (weightOf t (now (list .entry))) (now (lanes .entry)) r)) ⌝ }
 {
-    let mut e = 0;
-    while e < arcs {
+    let mut i = 0;
+    while i < count {
+        let e = list[i] as usize;
         let end = ends[e] as usize;
         let by = along(lanes_of(lanes, end), weights[e]);
         if falls(lanes, starts[e] as usize, by) {
-            return e;
+            return i;
         }
-        e += 1;
+        i += 1;
     }
-    e
+    i
 }
 
-// Each leg from `from` on: the cells of its start fall to what it gives, where that is less.
+// Each leg of the list from `from` on: the cells of its start fall to what it gives, where that is less.
 fn lower_from(
     starts: &[u16],
     ends: &[u16],
     weights: &[u32],
-    arcs: usize,
-    n: usize,
+    list: &[u16],
+    count: usize,
     from: usize,
     lanes: &mut [Cost],
 )
-    requires { ⌜ (let t = arcsAlone (now starts) (now ends) (now weights) in
-        (ArcLanes n arcs t (now lanes))) ⌝ }
+    requires { ⌜ ListLanes (arcsAlone (now starts) (now ends) (now weights)) (now list) count (now lanes) ⌝ }
     ensures { λ _. ⌜ (let t = arcsAlone (now (starts .entry)) (now (ends .entry)) (now (weights .entry)) in
-        (PassedTo arcs (startAt t) (endAt t) (weightAt t) from arcs (now (lanes .entry)) (now (lanes .exit)))) ⌝ }
+        (PassedTo count (startOf t (now (list .entry))) (endOf t (now (list .entry))) (weightOf t (now (list .entry))) from count
+        (now (lanes .entry)) (now (lanes .exit)))) ⌝ }
 {
-    let mut e = from;
-    while e < arcs {
+    let mut i = from;
+    while i < count {
+        let e = list[i] as usize;
         let end = ends[e] as usize;
         let given = along(lanes_of(lanes, end), weights[e]);
         lower(lanes, starts[e] as usize, given);
-        e += 1;
+        i += 1;
     }
 }
 
@@ -101,20 +102,20 @@ pub fn settle(
     starts: &[u16],
     ends: &[u16],
     weights: &[u32],
-    arcs: usize,
-    n: usize,
+    list: &[u16],
+    count: usize,
     lanes: &mut [Cost],
 )
-    requires { ⌜ (let t = arcsAlone (now starts) (now ends) (now weights) in
-        (ArcLanes n arcs t (now lanes))) ⌝ }
+    requires { ⌜ ListLanes (arcsAlone (now starts) (now ends) (now weights)) (now list) count (now lanes) ⌝ }
     ensures { λ _. ⌜ (let t = arcsAlone (now (starts .entry)) (now (ends .entry)) (now (weights .entry)) in
-        (Settled arcs (startAt t) (endAt t) (weightAt t) (now (lanes .entry)) (now (lanes .exit)))) ⌝ }
+        (Settled count (startOf t (now (list .entry))) (endOf t (now (list .entry))) (weightOf t (now (list .entry)))
+        (now (lanes .entry)) (now (lanes .exit)))) ⌝ }
 {
     loop {
-        let open = first_open(starts, ends, weights, arcs, n, lanes);
-        if open == arcs {
+        let open = first_open(starts, ends, weights, list, count, lanes);
+        if open == count {
             return;
         }
-        lower_from(starts, ends, weights, arcs, n, open, lanes);
+        lower_from(starts, ends, weights, list, count, open, lanes);
     }
 }

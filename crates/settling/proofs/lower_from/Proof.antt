@@ -5,56 +5,65 @@ use mathlib.Core.Path.{refl}
 use native.Mathlib.Omega.{arith}
 use borrow.Author.Needs.{needs}
 use Rattle.lent_tables.specs.SheetTables.{arcsAlone}
-use Rattle.settling.specs.laws.Arcs.{startAt, endAt, weightAt, arc-known}
+use Rattle.settling.specs.laws.Arcs.{startOf, endOf, weightOf}
 use Rattle.settling.specs.laws.LowerFour.{along-asked}
 use Rattle.settling.specs.laws.Lowered.{PassedTo, along-arc, passed-none, passed-next, passed-all, still-lanes}
 use Rattle.settling.proofs.lower_from.Statement.{statement}
 use Rattle.settling.proofs.lower_from.Tie as tie
 
 abbrev Inv-loop : tie.InvT-loop
-Inv-loop starts ends weights arcs n from lanes₀ e₀ lanes e = (from ≤ e) × (let t = arcsAlone starts ends weights in PassedTo arcs (startAt t) (endAt t) (weightAt t) from e lanes₀ lanes)
+Inv-loop starts ends weights list count from lanes₀ i₀ lanes i = (from ≤ i) × (let t = arcsAlone starts ends weights in PassedTo count (startOf t list) (endOf t list) (weightOf t list) from i lanes₀ lanes)
 
 abbrev μ-loop : tie.MeasureT-loop
-μ-loop starts ends weights arcs n from lanes₀ e₀ lanes e = arcs - e
+μ-loop starts ends weights list count from lanes₀ i₀ lanes i = count - i
 
 loop-holds : tie.Need-loop-holds Inv-loop μ-loop
 loop-holds c = (omega arith, passed-none)
 
+mul-e : tie.Need-mul-e Inv-loop μ-loop
+mul-e c = omega (arith, c .loop-test .taken, c .before .before .before .before .before .before .before .pre .few)
+
+shared-slice-read-e : tie.Need-shared-slice-read-e Inv-loop μ-loop
+shared-slice-read-e c = omega (arith, c .before .loop-test .taken, c .before .before .before .before .before .before .before .before .pre .long)
+
+cast-e : tie.Need-cast-e Inv-loop μ-loop
+cast-e c = omega (arith, c .before .before .before .before .before .before .before .before .pre .arc-few (c .before .before .loop .i) (c .before .loop-test .taken))
+
 mul-end : tie.Need-mul-end Inv-loop μ-loop
-mul-end c = omega (arith, arc-known (still-lanes (c .before .loop .inv .1 .lowered) (c .before .before .before .before .before .before .pre)) (c .loop-test .taken))
+mul-end c = omega (arith, c .before .before .before .before .before .before .before .before .pre .arc-few (c .before .before .loop .i) (c .before .loop-test .taken))
 
 shared-slice-read-end : tie.Need-shared-slice-read-end Inv-loop μ-loop
-shared-slice-read-end c = arc-known (still-lanes (c .before .before .loop .inv .1 .lowered) (c .before .before .before .before .before .before .before .pre)) (c .before .loop-test .taken) .ends-long
+shared-slice-read-end c = still-lanes (c .before .before .before .loop .inv .1 .lowered) (c .before .before .before .before .before .before .before .before .before .pre) .known (c .before .before .before .loop .i) (c .before .before .loop-test .taken) .ends-long
 
 cast-end : tie.Need-cast-end Inv-loop μ-loop
-cast-end c = omega (arith, arc-known (still-lanes (c .before .before .loop .inv .1 .lowered) (c .before .before .before .before .before .before .before .pre)) (c .before .loop-test .taken))
+cast-end c = omega (arith, still-lanes (c .before .before .before .loop .inv .1 .lowered) (c .before .before .before .before .before .before .before .before .before .pre) .known (c .before .before .before .loop .i) (c .before .before .loop-test .taken))
 
 lanes-of-requires : tie.Need-lanes-of-requires Inv-loop μ-loop
-lanes-of-requires c κs = arc-known (still-lanes (c .before .before .before .loop .inv .1 .lowered) (c .before .before .before .before .before .before .before .before .pre)) (c .before .before .loop-test .taken) .end-fits
+lanes-of-requires c κs = still-lanes (c .before .before .before .before .loop .inv .1 .lowered) (c .before .before .before .before .before .before .before .before .before .before .pre) .known (c .before .before .before .before .loop .i) (c .before .before .before .loop-test .taken) .end-fits
 
 mul-along : tie.Need-mul-along Inv-loop μ-loop
-mul-along c = omega (arith, arc-known (still-lanes (c .before .before .before .before .loop .inv .1 .lowered) (c .before .before .before .before .before .before .before .before .before .pre)) (c .before .before .before .loop-test .taken))
+mul-along c = omega (arith, c .before .before .before .before .before .before .before .before .before .before .before .pre .arc-few (c .before .before .before .before .before .loop .i) (c .before .before .before .before .loop-test .taken))
 
 shared-slice-read-along : tie.Need-shared-slice-read-along Inv-loop μ-loop
-shared-slice-read-along c = arc-known (still-lanes (c .before .before .before .before .before .loop .inv .1 .lowered) (c .before .before .before .before .before .before .before .before .before .before .pre)) (c .before .before .before .before .loop-test .taken) .weights-long
+shared-slice-read-along c = still-lanes (c .before .before .before .before .before .before .loop .inv .1 .lowered) (c .before .before .before .before .before .before .before .before .before .before .before .before .pre) .known (c .before .before .before .before .before .before .loop .i) (c .before .before .before .before .before .loop-test .taken) .weights-long
 
 along-requires : tie.Need-along-requires Inv-loop μ-loop
-along-requires c κs = along-asked (still-lanes (c .before .before .before .before .before .loop .inv .1 .lowered) (c .before .before .before .before .before .before .before .before .before .before .pre)) (c .before .before .before .before .loop-test .taken) (c .before .lanes-of .ensures)
+along-requires c κs = along-asked (still-lanes (c .before .before .before .before .before .before .loop .inv .1 .lowered) (c .before .before .before .before .before .before .before .before .before .before .before .before .pre)) (c .before .before .before .before .before .loop-test .taken) (c .before .lanes-of .ensures)
 
 mul-lower : tie.Need-mul-lower Inv-loop μ-loop
-mul-lower c = omega (arith, arc-known (still-lanes (c .before .before .before .before .before .before .before .loop .inv .1 .lowered) (c .before .before .before .before .before .before .before .before .before .before .before .before .pre)) (c .before .before .before .before .before .before .loop-test .taken))
+mul-lower c = omega (arith, c .before .before .before .before .before .before .before .before .before .before .before .before .before .before .pre .arc-few (c .before .before .before .before .before .before .before .before .loop .i) (c .before .before .before .before .before .before .before .loop-test .taken))
 
 shared-slice-read-lower : tie.Need-shared-slice-read-lower Inv-loop μ-loop
-shared-slice-read-lower c = arc-known (still-lanes (c .before .before .before .before .before .before .before .before .loop .inv .1 .lowered) (c .before .before .before .before .before .before .before .before .before .before .before .before .before .pre)) (c .before .before .before .before .before .before .before .loop-test .taken) .starts-long
+shared-slice-read-lower c = still-lanes (c .before .before .before .before .before .before .before .before .before .loop .inv .1 .lowered) (c .before .before .before .before .before .before .before .before .before .before .before .before .before .before .before .pre) .known (c .before .before .before .before .before .before .before .before .before .loop .i) (c .before .before .before .before .before .before .before .before .loop-test .taken) .starts-long
 
 cast-lower : tie.Need-cast-lower Inv-loop μ-loop
-cast-lower c = omega (arith, arc-known (still-lanes (c .before .before .before .before .before .before .before .before .loop .inv .1 .lowered) (c .before .before .before .before .before .before .before .before .before .before .before .before .before .pre)) (c .before .before .before .before .before .before .before .loop-test .taken))
+cast-lower c = omega (arith, still-lanes (c .before .before .before .before .before .before .before .before .before .loop .inv .1 .lowered) (c .before .before .before .before .before .before .before .before .before .before .before .before .before .before .before .pre) .known (c .before .before .before .before .before .before .before .before .before .loop .i) (c .before .before .before .before .before .before .before .before .loop-test .taken))
 
 lower-requires : tie.Need-lower-requires Inv-loop μ-loop
-lower-requires c κs = arc-known (still-lanes (c .before .before .before .before .before .before .before .before .loop .inv .1 .lowered) (c .before .before .before .before .before .before .before .before .before .before .before .before .before .pre)) (c .before .before .before .before .before .before .before .loop-test .taken) .start-fits
+lower-requires c κs = still-lanes (c .before .before .before .before .before .before .before .before .before .loop .inv .1 .lowered) (c .before .before .before .before .before .before .before .before .before .before .before .before .before .before .before .pre) .known (c .before .before .before .before .before .before .before .before .before .loop .i) (c .before .before .before .before .before .before .before .before .loop-test .taken) .start-fits
 
-add-e : tie.Need-add-e Inv-loop μ-loop
-add-e c = search needs
+add-i : tie.Need-add-i Inv-loop μ-loop
+add-i c = search needs
 
 loop-less : tie.Need-loop-less Inv-loop μ-loop
 loop-less c = search needs
@@ -63,7 +72,7 @@ loop-again : tie.Need-loop-again Inv-loop μ-loop
 loop-again c =
     let given = c .before .before .before .before .before in
     let read = given .before .before in
-    let tested = read .before .before .before in
+    let tested = read .before .before .before .before in
     let turn = tested .before in
     (omega (arith, turn .loop .inv .0), passed-next (turn .loop .inv .1) (turn .loop .inv .0) (tested .loop-test .taken) (along-arc _ _ (read .lanes-of .ensures) (given .along .ensures) refl refl) (c .before .before .lower .ensures))
 
@@ -80,6 +89,9 @@ lower-from-spec =
     Inv-loop
     μ-loop
     loop-holds
+    mul-e
+    shared-slice-read-e
+    cast-e
     mul-end
     shared-slice-read-end
     cast-end
@@ -91,7 +103,7 @@ lower-from-spec =
     shared-slice-read-lower
     cast-lower
     lower-requires
-    add-e
+    add-i
     loop-less
     loop-again
     same-length

@@ -4,22 +4,22 @@ use lib.ListN.{length}
 use Rattle.lists.specs.Sums.{sumTo}
 use Rattle.lent_tables.specs.SheetTables.{arcsAlone}
 use Rattle.working_none.specs.laws.Low.{entry}
-use Rattle.settling.specs.laws.Arcs.{startAt, endAt, weightAt, arc-known}
+use Rattle.settling.specs.laws.Arcs.{startOf, endOf, weightOf}
 use Rattle.settling.specs.laws.Lowered.{Lowered, is-arc, lowered-none, lowered-more, sum-falls, settled-end, still-lanes}
 use Rattle.settling.proofs.settle.Statement.{statement}
 use Rattle.settling.proofs.settle.Tie as tie
 
 abbrev Inv-loop : tie.InvT-loop
-Inv-loop starts ends weights arcs n lanes₀ lanes = let t = arcsAlone starts ends weights in Lowered arcs (startAt t) (endAt t) (weightAt t) lanes₀ lanes
+Inv-loop starts ends weights list count lanes₀ lanes = let t = arcsAlone starts ends weights in Lowered count (startOf t list) (endOf t list) (weightOf t list) lanes₀ lanes
 
 abbrev μ-loop : tie.MeasureT-loop
-μ-loop starts ends weights arcs n lanes₀ lanes = sumTo (length lanes₀) (entry lanes)
+μ-loop starts ends weights list count lanes₀ lanes = sumTo (length lanes₀) (entry lanes)
 
 loop-holds : tie.Need-loop-holds Inv-loop μ-loop
 loop-holds c = lowered-none
 
 first-open-requires : tie.Need-first-open-requires Inv-loop μ-loop
-first-open-requires c κs = still-lanes (c .before .loop .inv) (c .before .before .before .before .before .before .pre)
+first-open-requires c κs = still-lanes (c .before .loop .inv) (c .before .before .before .before .before .before .before .pre)
 
 same-length : tie.Need-same-length Inv-loop μ-loop
 same-length c = c .before .before .before .loop .inv .same-length
@@ -28,16 +28,16 @@ returns : tie.Need-returns Inv-loop μ-loop
 returns c = settled-end (c .if1 .taken) (c .before .before .before .loop .inv) (c .before .first-open .ensures)
 
 lower-from-requires : tie.Need-lower-from-requires Inv-loop μ-loop
-lower-from-requires c κs = still-lanes (c .before .before .before .before .loop .inv) (c .before .before .before .before .before .before .before .before .before .pre)
+lower-from-requires c κs = still-lanes (c .before .before .before .before .loop .inv) (c .before .before .before .before .before .before .before .before .before .before .pre)
 
 loop-less : tie.Need-loop-less Inv-loop μ-loop
 loop-less c =
     let branch = c .before .before .before .before in
     let opened = branch .before in
     let turn = opened .before .before in
-    let start = turn .before .before .before .before .before in
+    let start = turn .before .before .before .before .before .before in
     let on = is-arc (opened .first-open .ensures) (branch .if1 .left) in
-    sum-falls (turn .loop .inv) (opened .first-open .ensures) on (c .before .before .lower-from .ensures) (arc-known (still-lanes (turn .loop .inv) (start .pre)) on .start-fits)
+    sum-falls (turn .loop .inv) (opened .first-open .ensures) on (c .before .before .lower-from .ensures) (still-lanes (turn .loop .inv) (start .pre) .known _ on .start-fits)
 
 loop-again : tie.Need-loop-again Inv-loop μ-loop
 loop-again c = lowered-more (c .before .before .before .before .before .before .before .loop .inv) (c .before .before .lower-from .ensures .lowered)

@@ -16,7 +16,7 @@ use Rattle.lanes.specs.declared.Four.{Four}
 use Rattle.lanes.specs.laws.Four.{nth, fourOf, lessFour, less-nth, FourLow, below-four}
 use Rattle.lanes.specs.laws.WriteFour.{writeFour, putFour, four-length, four-node, four-other}
 use Rattle.working_none.specs.laws.Low.{AllLow}
-use Rattle.settling.specs.laws.Arcs.{endAt, weightAt, ArcLanes, arc-known}
+use Rattle.settling.specs.laws.Arcs.{endOf, weightOf, ListLanes}
 
 -- four costs with a weight added
 abbrev pub alongFour : Four → ℕ → Four
@@ -63,10 +63,10 @@ four-low lanes v l low is =
     subst FourLow (sym is)
     (low (v * 4 + 0) (omega arith), low (v * 4 + 1) (omega arith), low (v * 4 + 2) (omega arith), low (v * 4 + 3) (omega arith))
 
--- what is asked where an arc is taken from the cells of its end
-pub along-asked : {n m e : ℕ} {t : SheetTables} {lanes : List ℕ} {here : Four} → ArcLanes n m t lanes → e < m → here ≡ fourOf lanes (endAt t e)
-    → FourLow here × (weightAt t e ≤ maxWeight)
-along-asked {e = e} {t = t} {lanes = lanes} R l is = let k = arc-known R l in (four-low lanes (endAt t e) (k .end-fits) (R .low) is, k .weight-low)
+-- what is asked where the arc at a place of a list is taken from the cells of its end
+pub along-asked : {i count : ℕ} {t : SheetTables} {list lanes : List ℕ} {here : Four} → ListLanes t list count lanes → i < count
+    → here ≡ fourOf lanes (endOf t list i) → FourLow here × (weightOf t list i ≤ maxWeight)
+along-asked {i = i} {t = t} {list = list} {lanes = lanes} R l is = let k = R .known i l in (four-low lanes (endOf t list i) (k .end-fits) (R .low) is, k .weight-low)
 
 -- ---- the cells of node u fall to `by` where they are above it
 

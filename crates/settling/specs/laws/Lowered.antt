@@ -16,7 +16,7 @@ use Rattle.lanes.specs.declared.Four.{Four}
 use Rattle.lanes.specs.laws.Four.{nth, fourOf}
 use Rattle.working_none.specs.laws.Low.{entry, AllLow}
 use Rattle.lent_tables.specs.SheetTables.{SheetTables}
-use Rattle.settling.specs.laws.Arcs.{startAt, endAt, weightAt, ArcLanes}
+use Rattle.settling.specs.laws.Arcs.{startOf, endOf, weightOf, ListLanes, still-known}
 use Rattle.settling.specs.laws.ClosedOver.{ArcFrom, ClosedOver}
 use Rattle.settling.specs.laws.LowerFour.{alongFour, fallsFour, along-nth, cell-nth, none-falls, one-falls, LoweredAt}
 
@@ -217,6 +217,37 @@ module _ {m : ℕ} {start end weight : ℕ → ℕ} where
   still-low L low i l = omega (arith, entry-low L i, low i (omega (arith, L .same-length)))
 
 -- what is asked of the cells stays
-pub still-lanes : {n m : ℕ} {t : SheetTables} {before after : List ℕ} → Lowered m (startAt t) (endAt t) (weightAt t) before after → ArcLanes n m t before
-    → ArcLanes n m t after
-still-lanes L R = record { arcs = R .arcs; wide = omega (arith, R .wide, L .same-length); low = still-low L (R .low) }
+pub still-lanes : {count : ℕ} {t : SheetTables} {list before after : List ℕ} → Lowered count (startOf t list) (endOf t list) (weightOf t list) before after
+    → ListLanes t list count before → ListLanes t list count after
+still-lanes L R = record {
+  few = R .few;
+  long = R .long;
+  arc-few = R .arc-few;
+  known = λ i l. still-known (L .same-length) (R .known i l);
+  low = still-low L (R .low);
+}
+
+-- ---- the arcs of a list, and all arcs
+
+-- each of the m arcs has one of the list with its start and its end that weighs no more
+pub record AllCovered (m : ℕ) (start end weight : ℕ → ℕ) (list : List ℕ) (count : ℕ) : Type 0 where
+  pub arc : (i : ℕ) → i < count → entry list i < m
+  pub covered : (e : ℕ) → e < m
+      → (i : ℕ) × (i < count) × (start (entry list i) ≡ start e) × (end (entry list i) ≡ end e) × (weight (entry list i) ≤ weight e)
+
+-- cells that are settled along the arcs of the list are so along all arcs
+pub settled-all : {m count : ℕ} {start end weight : ℕ → ℕ} {list before after : List ℕ} → AllCovered m start end weight list count
+    → Settled count (λ i. start (entry list i)) (λ i. end (entry list i)) (λ i. weight (entry list i)) before after → Settled m start end weight before after
+settled-all {m} {count} {start} {end} {weight} {list} {before} {after} A S = record {
+  lowered = record { same-length = S .lowered .same-length; low = S .lowered .low; from = λ v j l. go v j (S .lowered .from v j l) };
+  closed = record {
+    each = λ e l j s.
+        let (i, on, u, v, w) = A .covered e l in
+        omega (arith, S .closed .each i on j s, ap (λ (x : ℕ). cellIn after 4 x j) u, ap (λ (x : ℕ). cellIn after 4 x j) v);
+  };
+}
+  where
+    go : (v j : ℕ) → (cellIn after 4 v j ≡ cellIn before 4 v j) ⊎ ArcFrom count (λ i. start (entry list i)) (λ i. end (entry list i)) (λ i. weight (entry list i)) (λ u. cellIn after 4 u j) v
+        → (cellIn after 4 v j ≡ cellIn before 4 v j) ⊎ ArcFrom m start end weight (λ u. cellIn after 4 u j) v
+    go v j (inl e) = inl e
+    go v j (inr h) = inr (record { arc = entry list (h .arc); on-graph = A .arc (h .arc) (h .on-graph); from = h .from; gives = h .gives })
