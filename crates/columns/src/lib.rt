@@ -51,8 +51,8 @@ fn some_finite(lanes: &[Cost]) -> bool
     found
 }
 
-// The cells of four sets are lowered along the legs until no leg gives less; where all of them are "none", none does. The lanes have four entries for
-// each site.
+// The cells of four sets are lowered along the legs until no leg gives less; where all of them are "none", none does. The index may leave out
+// legs that are dearer than parallel ones; the lanes have four entries for each site.
 fn close_four(
     starts: &[u16],
     ends: &[u16],
@@ -76,7 +76,7 @@ fn close_four(
         return;
     }
     lower_by_turns(starts, weights, index, places, n, lanes);
-    settle(starts, ends, weights, arcs, n, lanes);
+    settle(starts, ends, weights, index, places[n] as usize, lanes);
     give_columns(lanes, n, size, sets, cells);
 }
 

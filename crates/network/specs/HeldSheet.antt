@@ -11,7 +11,7 @@ use Rattle.number_fields.specs.Fields.{Bytes}
 use Rattle.lists.specs.Over.{over}
 use Rattle.lent_tables.specs.SheetTables.{SheetTables}
 use Rattle.arc_index.specs.Index.{byEnd, places}
-use Rattle.arc_index.specs.laws.Indexed.{Indexed, indexed}
+use Rattle.arc_index.specs.laws.Indexed.{WholeIndex, whole-index}
 use Rattle.graph.specs.Graph.{Graph, Sound}
 use Rattle.graph.specs.HeldGraph.{graphIn, end-in}
 use Rattle.graph.specs.LeastTotals.{Room}
@@ -40,9 +40,9 @@ ends-below {n} {k} {m} {t} H e on = omega (arith, end-in n k m t e on, H .sound 
 -- the tables of the index, once they are filled
 pub held-index : {n k m : ℕ} {t : SheetTables} {f : FurtherLengths} {byEnd' places' : List ℕ} → HeldSheet n k m t f → (old old' : List ℕ) → m ≤ length old → n + 1 ≤ length old'
     → byEnd' ≡ over (byEnd n m (graphIn n k m t .end)) old → places' ≡ over (places n m (graphIn n k m t .end)) old'
-    → Indexed n m (graphIn n k m t .end) byEnd' places'
+    → WholeIndex n m (graphIn n k m t .end) byEnd' places'
 held-index {n} {k} {m} {t} H old old' long long' e e' =
-    subst₂ (Indexed n m (graphIn n k m t .end)) (sym e) (sym e') (indexed n m (graphIn n k m t .end) (H .sound .end-lt) old old' long long')
+    subst₂ (WholeIndex n m (graphIn n k m t .end)) (sym e) (sym e') (whole-index n m (graphIn n k m t .end) (H .sound .end-lt) old old' long long')
 
 module _ (s : List ℕ) (bytes : Bytes s) (before after : SheetTables) (f : FurtherLengths) (n k m : ℕ) (o : OpenedSheet s before after f n k m) where
   is-sheet : IsSheet s n k (o .judged .records)

@@ -2,3 +2,4 @@
 pub mod Filling
 -- from the start to the end
 pub mod Whole
+pub mod KeptArcs

@@ -1,6 +1,7 @@
 // The search: the cost table over the graph that loaded tables hold (document 01, "The cost table").
 // It starts with the landings; then, size by size, the sets are split at each site, and closed over the legs.
 use columns::close_sets;
+use kept_arcs::keep_cheapest;
 use limits::Cost;
 use order::POSITIONS;
 use order_ranges::end_of_size;
@@ -15,7 +16,10 @@ ghost use lib.ListN.{length, replicate};
 ghost use Rattle.limits.specs.Limits.{noCost, maxSubsets};
 ghost use Rattle.lists.specs.Over.{over};
 ghost use Rattle.lent_tables.specs.SheetTables.{sheetTables};
-ghost use Rattle.arc_index.specs.laws.Indexed.{Indexed};
+ghost use Rattle.arc_index.specs.laws.Indexed.{Indexed, WholeIndex};
+ghost use Rattle.working_none.specs.laws.Low.{entry};
+ghost use Rattle.settling.specs.laws.Arcs.{startAt, endAt, weightAt};
+ghost use Rattle.settling.specs.laws.Lowered.{AllCovered};
 ghost use Rattle.graph.specs.HeldGraph.{graphIn};
 ghost use Rattle.cost_table.specs.Cells.{costTable};
 ghost use Rattle.order_ranges.specs.laws.Ranges.{Ordered, entryOf};
@@ -24,7 +28,13 @@ ghost use Rattle.search.specs.Searchable.{Searchable};
 // Four cells for each of the most sites, and for each of the most sets.
 const MAX_LANES: usize = 4 * limits::MAX_NODES as usize;
 
-// The cells of all sites and sets. `sets` has the sets in their order, `lanes` four entries for each site and for each set.
+// The most legs, and a place for each of the most sites and one for the end.
+const MAX_ARCS: usize = limits::MAX_ARCS as usize;
+
+const MAX_PLACES: usize = limits::MAX_NODES as usize + 1;
+
+// The cells of all sites and sets. The index may leave out legs that are dearer than parallel ones;
+// `sets` has the sets in their order, `lanes` four entries for each site and for each set.
 fn fill(
     starts: &[u16],
     ends: &[u16],
@@ -41,7 +51,8 @@ fn fill(
 )
     requires { ⌜ (let t = sheetTables (now starts) (now ends) (now weights) (now landings) in
         (Searchable n k arcs t × Indexed n arcs (graphIn n k arcs t .end) (now index) (now places) × (length (now cells) ≡ n * 2 ^ k)
-        × (n * 4 ≤ length (now lanes)) × (2 ^ k * 4 ≤ length (now lanes)) × Ordered (entryOf (now sets)) (length (now sets)) (2 ^ k) × (length (now sets) ≤ maxSubsets))) ⌝ }
+        × (n * 4 ≤ length (now lanes)) × (2 ^ k * 4 ≤ length (now lanes)) × Ordered (entryOf (now sets)) (length (now sets)) (2 ^ k) × (length (now sets) ≤ maxSubsets)
+        × AllCovered arcs (startAt t) (endAt t) (weightAt t) (now index) (entry (now places) n))) ⌝ }
     ensures { λ _. ⌜ (let t = sheetTables (now (starts .entry)) (now (ends .entry)) (now (weights .entry)) (now (landings .entry)) in
         (now (cells .exit) ≡ costTable (graphIn n k arcs t) noCost)) ⌝ }
 {
@@ -98,7 +109,7 @@ pub fn search(
     marks: &mut [u8],
 )
     requires { ⌜ (let t = sheetTables (now starts) (now ends) (now weights) (now landings) in
-        (Searchable n k arcs t × Indexed n arcs (graphIn n k arcs t .end) (now index) (now places) × (n * 2 ^ k ≤ length (now cells))
+        (Searchable n k arcs t × WholeIndex n arcs (graphIn n k arcs t .end) (now index) (now places) × (n * 2 ^ k ≤ length (now cells))
         × (n ≤ length (now marks)))) ⌝ }
     ensures { λ _. ⌜ (let t = sheetTables (now (starts .entry)) (now (ends .entry)) (now (weights .entry)) (now (landings .entry)) in
         ((now (cells .exit) ≡ over (costTable (graphIn n k arcs t) noCost) (now (cells .entry)))
@@ -110,13 +121,24 @@ pub fn search(
     let mut sets = [0u16; POSITIONS];
     let count = sets_below(size, &mut sets);
     let mut lanes = [0 as Cost; MAX_LANES];
+    let mut kept = [0u16; MAX_ARCS];
+    let mut begins = [0u16; MAX_PLACES];
+    keep_cheapest(
+        starts,
+        weights,
+        index,
+        places,
+        nodes,
+        &mut kept,
+        &mut begins,
+    );
     fill(
         starts,
         ends,
         weights,
         landings,
-        index,
-        places,
+        &kept,
+        &begins,
         &sets[..count],
         nodes,
         k,

@@ -14,9 +14,10 @@ use Rattle.lanes.specs.declared.FourNumbers.{FourNumbers}
 use Rattle.lanes.specs.laws.Four.{nthNumber, fourFrom, from-nth, below-four}
 use Rattle.lanes.specs.laws.WriteFour.{LaneOf, NoLane, lane-or-none, putFour}
 use Rattle.lanes.specs.laws.Columns.{ColumnsTaken, ColumnsGiven}
+use Rattle.working_none.specs.laws.Low.{entry}
 use Rattle.settling.specs.laws.ClosedOver.{ArcFrom, ClosedOver}
-use Rattle.settling.specs.laws.Arcs.{startAt, endAt, weightAt, ArcTables}
-use Rattle.settling.specs.laws.Lowered.{Settled, lowered-more, settled-over}
+use Rattle.settling.specs.laws.Arcs.{startAt, endAt, weightAt, startOf, endOf, weightOf, ArcTables}
+use Rattle.settling.specs.laws.Lowered.{Settled, lowered-more, settled-over, settled-all}
 use Rattle.visits.specs.laws.ByIndex.{LoweredByIndex}
 use Rattle.columns.specs.laws.Searched.{Tables, cells-low, low-cells, turned}
 
@@ -50,7 +51,8 @@ pub record FourClosed (n m size : ℕ) (t : SheetTables) (w : ℕ → ℕ) (befo
 -- the columns are taken, lowered, settled and given back
 pub four-closed : {n m size : ℕ} {t : SheetTables} {w : ℕ → ℕ} {byEnd places before after lanes taken lower settled : List ℕ}
     → Tables n m size t byEnd places before lanes → ((j : ℕ) → j < 4 → w j < size) → ColumnsTaken size w before n lanes taken
-    → LoweredByIndex n (t .starts) (t .weights) byEnd places taken lower → Settled m (startAt t) (endAt t) (weightAt t) lower settled
+    → LoweredByIndex n (t .starts) (t .weights) byEnd places taken lower
+    → Settled (entry places n) (startOf t byEnd) (endOf t byEnd) (weightOf t byEnd) lower settled
     → ColumnsGiven size w settled n before after → FourClosed n m size t w before after
 four-closed {n} {m} {size} {t} {w} {byEnd} {places} {before} {after} {lanes} {taken} {lower} {settled} T small C L S G = record {
   same-length = G .same-length;
@@ -59,7 +61,7 @@ four-closed {n} {m} {size} {t} {w} {byEnd} {places} {before} {after} {lanes} {ta
 }
   where
     all : Settled m (startAt t) (endAt t) (weightAt t) taken settled
-    all = record { lowered = lowered-more (turned T small C L) (S .lowered); closed = S .closed }
+    all = let settling = settled-all (T .covered) S in record { lowered = lowered-more (turned T small C L) (settling .lowered); closed = settling .closed }
 
     stays : (u y : ℕ) → ((j : ℕ) → j < 4 → w j ≢ y) → LaneOf w y ⊎ NoLane w y → putFour w (cellIn settled 4 u) y (cellIn before size u y) ≡ cellIn before size u y
     stays u y none (inl a) = absurd (none (a .lane) (a .small) (a .same))
@@ -118,6 +120,8 @@ module _ {n m size : ℕ} {t : SheetTables} {at : ℕ → ℕ} {first last : ℕ
     low = cells-low n size mid (S .same-length ∙ T .whole)
         (λ v w on small. omega (arith, S .low v w on small, low-cells n size before (T .whole) (T .low) v w on small));
     wide = same ∙ T .wide;
+    few-arcs = T .few-arcs;
+    covered = T .covered;
   }
 
 -- the next four sets

@@ -5,6 +5,7 @@ use mathlib.Core.Path.{_≡_, _∙_, subst}
 use mathlib.Core.List.{List}
 use native.Mathlib.Omega.{arith}
 use lib.ListN.{length}
+use Rattle.limits.specs.Limits.{maxArcs}
 use Rattle.lent_tables.specs.SheetTables.{SheetTables}
 use Rattle.arc_index.specs.laws.Indexed.{Indexed}
 use Rattle.cost_table.specs.Cells.{cellIn}
@@ -12,8 +13,8 @@ use Rattle.cost_table.specs.laws.Rows.{place-of, place-lt}
 use Rattle.lanes.specs.laws.Columns.{ColumnsTaken}
 use Rattle.working_none.specs.laws.WorkingNone.{workingNone}
 use Rattle.working_none.specs.laws.Low.{entry, AllLow}
-use Rattle.settling.specs.laws.Arcs.{startAt, endAt, weightAt, ArcTables, ArcLanes}
-use Rattle.settling.specs.laws.Lowered.{Lowered, still-lanes}
+use Rattle.settling.specs.laws.Arcs.{startAt, endAt, weightAt, ArcTables, ListLanes, arc-known}
+use Rattle.settling.specs.laws.Lowered.{Lowered, AllCovered, still-low}
 use Rattle.visits.specs.laws.ByIndex.{ArcsByEnd, SomeArcs, LoweredByIndex}
 
 pub record Tables (n m size : ℕ) (t : SheetTables) (byEnd places cells lanes : List ℕ) : Type 0 where
@@ -22,6 +23,8 @@ pub record Tables (n m size : ℕ) (t : SheetTables) (byEnd places cells lanes :
   pub whole : length cells ≡ n * size
   pub low : AllLow cells
   pub wide : length lanes ≡ n * 4
+  pub few-arcs : m ≤ maxArcs
+  pub covered : AllCovered m (startAt t) (endAt t) (weightAt t) byEnd (entry places n)
 
 -- no cell of a table of n nodes is above "none" exactly where no entry of its list is
 pub cells-low : (n size : ℕ) (cells : List ℕ) → length cells ≡ n * size → ((v w : ℕ) → v < n → w < size → cellIn cells size v w ≤ workingNone) → AllLow cells
@@ -55,13 +58,20 @@ module _ {n m size : ℕ} {t : SheetTables} {byEnd places cells lanes : List ℕ
   pub taken-some : SomeArcs n (t .starts) (t .weights) byEnd places taken
   taken-some = record { m = m; end = endAt t; by-end = taken-arcs }
 
-  taken-lanes : ArcLanes n m t taken
-  taken-lanes = record { arcs = T .arcs; wide = omega (arith, T .wide, C .same-length); low = taken-low }
+  -- the arcs of the index
+  listed : (lanes' : List ℕ) → length lanes' ≡ length taken → AllLow lanes' → ListLanes t byEnd (entry places n) lanes'
+  listed lanes' same low = record {
+    few = omega (arith, T .index .place-le n (omega arith), T .few-arcs);
+    long = omega (arith, T .index .place-le n (omega arith), T .index .by-end-long);
+    arc-few = λ i l. omega (arith, T .covered .arc i l, T .few-arcs);
+    known = λ i l. arc-known (T .arcs) (omega (arith, T .wide, C .same-length)) (T .covered .arc i l);
+    low = low;
+  }
 
   -- and after they are lowered by the index
   pub turned : {lower : List ℕ} → LoweredByIndex n (t .starts) (t .weights) byEnd places taken lower
       → Lowered m (startAt t) (endAt t) (weightAt t) taken lower
   turned L = L .lowered m (endAt t) taken-arcs
 
-  pub turned-lanes : {lower : List ℕ} → LoweredByIndex n (t .starts) (t .weights) byEnd places taken lower → ArcLanes n m t lower
-  turned-lanes L = still-lanes (turned L) taken-lanes
+  pub turned-lanes : {lower : List ℕ} → LoweredByIndex n (t .starts) (t .weights) byEnd places taken lower → ListLanes t byEnd (entry places n) lower
+  turned-lanes {lower} L = listed lower (turned L .same-length) (still-low (turned L) taken-low)

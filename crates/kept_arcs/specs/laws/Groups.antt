@@ -1,10 +1,11 @@
 -- The groups of an index, of which the cheapest arcs are kept: the groups of the nodes so far, and what the kept groups are in the end.
 -- Assumes nothing.
-use Prim.Native.Nat.{ℕ, _+_, _≤_, _<_}
+use Prim.Native.Nat.{ℕ, zero, suc, _+_, _≤_, _<_}
 use mathlib.Core.Path.{_≡_, ap, _∙_, subst}
 use mathlib.Core.List.{List}
 use native.Mathlib.Omega.{arith}
-use native.Mathlib.Decide.{ℕ-discrete}
+use native.Mathlib.Numerals.{add-one}
+use native.Mathlib.Decide.{ℕ-discrete, decLt}
 use lib.ListN.{length, set}
 use lib.Seq.{getD-set-same, getD-set-other}
 use Rattle.limits.specs.Limits.{maxNodes, maxArcs}
@@ -37,6 +38,7 @@ pub record IndexAsked (n : ℕ) (starts weights list places : List ℕ) : Type 0
 
 -- the groups of the first v nodes are kept by the first `count` entries; group u begins at entry u of `begins`
 pub record KeptGroups (starts weights list places : List ℕ) (v count : ℕ) (kept begins : List ℕ) : Type 0 where
+  pub zero : entry begins 0 ≡ 0
   pub here : entry begins v ≡ count
   pub low : (u : ℕ) → u ≤ v → entry begins u ≤ entry places u
   pub rises : (u : ℕ) → u < v → entry begins u ≤ entry begins (u + 1)
@@ -49,6 +51,7 @@ pub record KeptGroups (starts weights list places : List ℕ) (v count : ℕ) (k
 module _ {starts weights list places : List ℕ} where
   pub groups-none : (kept begins : List ℕ) → 0 < length begins → KeptGroups starts weights list places 0 0 kept (set begins 0 0)
   groups-none kept begins some = record {
+    zero = getD-set-same begins 0 0 0 some;
     here = getD-set-same begins 0 0 0 some;
     low = λ u l. let z : u ≡ 0 = omega arith in omega (arith, ap (entry (set begins 0 0)) z, getD-set-same begins 0 0 0 some);
     rises = λ u l. absurd (omega arith);
@@ -61,6 +64,7 @@ module _ {starts weights list places : List ℕ} where
       → KeptTo starts weights list (entry places v) (entry places (v + 1)) count r kept kept'
       → KeptGroups starts weights list places (v + 1) r kept' (set begins (v + 1) r)
   groups-next {v} {count} {r} {kept} {kept'} begins on G K = record {
+    zero = old 0 (omega arith) ∙ G .zero;
     here = now-here;
     low = λ u l. lows u l (ℕ-discrete u (v + 1));
     rises = λ u l. rise u l (ℕ-discrete u v);
@@ -128,3 +132,18 @@ groups-all {starts} {weights} {list} {places} {kept} {begins} {n} {v} {count} e 
   count = count;
   groups = subst (λ (u : ℕ). KeptGroups starts weights list places u count kept begins) e G;
 }
+
+-- each kept entry is in a group
+pub record InKeptGroup (begins : List ℕ) (n p : ℕ) : Type 0 where
+  pub node : ℕ
+  pub on-graph : node < n
+  pub from : entry begins node ≤ p
+  pub to : p < entry begins (node + 1)
+
+pub in-kept-group : (begins : List ℕ) → entry begins 0 ≡ 0 → (v p : ℕ) → p < entry begins v → InKeptGroup begins v p
+in-kept-group begins z zero p l = absurd (omega arith)
+in-kept-group begins z (suc v) p l = go (decLt p (entry begins v)) (λ h. in-kept-group begins z v p h)
+  where
+    go : Dec (p < entry begins v) → (p < entry begins v → InKeptGroup begins v p) → InKeptGroup begins (suc v) p
+    go (yes h) before = let g = before h in record { node = g .node; on-graph = omega (arith, g .on-graph); from = g .from; to = g .to }
+    go (no h) before = record { node = v; on-graph = omega arith; from = omega arith; to = omega (arith, ap (entry begins) (add-one v)) }

@@ -80,7 +80,7 @@ close-sets-requires c κs =
     let is = sized .sets-of .ensures in
     let range = ranged .end-of-size .ensures .range in
     let lent = splitted .split-rows .kept .1 .1 .1 .1 .1 .1 .0 in
-    (sets-in (p .0) is (p .5), range, p .6, close-asked (p .0) is (p .5) range (turn .loop .cells) _ _ (p .1) (length-take-le _ _ (omega (arith, lent, turn .loop .inv .2, p .3))) (turn .loop .inv .3) (turn .loop .inv .4) (splitted .split-rows .ensures))
+    (sets-in (p .0) is (p .5), range, p .6, close-asked (p .0) is (p .5) range (turn .loop .cells) _ _ (p .1) (p .7) (length-take-le _ _ (omega (arith, lent, turn .loop .inv .2, p .3))) (turn .loop .inv .3) (turn .loop .inv .4) (splitted .split-rows .ensures))
 
 loop-less : tie.Need-loop-less Inv-loop μ-loop
 loop-less c = omega (arith, c .before .before .before .before .before .before .before .before .before .before .before .before .before .before .end-of-size .ensures .rising, c .before .before .before .before .before .before .before .before .before .before .before .before .before .before .before .loop-test .taken)

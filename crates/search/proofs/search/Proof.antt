@@ -6,6 +6,7 @@ use lib.Seq.{length-take-le}
 use denote.Ref.{now}
 use borrow.Author.Needs.{needs}
 use Rattle.search.specs.laws.Whole.{total-fits, size-fits, total-long, fill-asked, cells-over, marks-over}
+use Rattle.search.specs.laws.KeptArcs.{index-asked, kept-indexed, kept-covers}
 use Rattle.search.proofs.search.Statement.{statement}
 use Rattle.search.proofs.search.Tie as tie
 
@@ -21,34 +22,52 @@ slice-aggregate-sets-below c = search needs
 sets-below-requires : tie.Need-sets-below-requires
 sets-below-requires c κs = (search needs, size-fits (c .before .before .before .before .before .before .before .before .before .before .pre .0) (c .before .sets-of .ensures))
 
+slice-aggregate-keep-cheapest : tie.Need-slice-aggregate-keep-cheapest
+slice-aggregate-keep-cheapest c = search needs
+
+slice-aggregate-keep-cheapest-2 : tie.Need-slice-aggregate-keep-cheapest-2
+slice-aggregate-keep-cheapest-2 c = search needs
+
+keep-cheapest-requires : tie.Need-keep-cheapest-requires
+keep-cheapest-requires c κs = let p = c .before .before .before .before .before .before .before .before .before .before .before .before .before .before .pre in (index-asked (p .0) (p .1), omega arith, omega (arith, p .0 .few-nodes))
+
+slice-aggregate-fill : tie.Need-slice-aggregate-fill
+slice-aggregate-fill c = search needs
+
+slice-aggregate-fill-2 : tie.Need-slice-aggregate-fill-2
+slice-aggregate-fill-2 c = search needs
+
 array-share-prefix-sets : tie.Need-array-share-prefix-sets
 array-share-prefix-sets c = search needs
 
-slice-aggregate-fill : tie.Need-slice-aggregate-fill
-slice-aggregate-fill c = sym (length-take-le _ _ (omega (arith, c .before .before .sets-below .ensures .0)))
+slice-aggregate-fill-3 : tie.Need-slice-aggregate-fill-3
+slice-aggregate-fill-3 c = sym (length-take-le _ _ (omega (arith, c .before .before .before .before .before .before .before .before .before .sets-below .ensures .0)))
 
 slice-relend-prefix-fill : tie.Need-slice-relend-prefix-fill
-slice-relend-prefix-fill c = total-long (c .before .before .before .before .before .before .before .before .before .before .before .before .before .pre .0) (c .before .before .before .before .sets-of .ensures) (c .before .before .before .before .before .before .before .before .before .before .before .before .before .pre .2)
+slice-relend-prefix-fill c = total-long (c .before .before .before .before .before .before .before .before .before .before .before .before .before .before .before .before .before .before .before .before .pre .0) (c .before .before .before .before .before .before .before .before .before .before .before .sets-of .ensures) (c .before .before .before .before .before .before .before .before .before .before .before .before .before .before .before .before .before .before .before .before .pre .2)
 
-slice-aggregate-fill-2 : tie.Need-slice-aggregate-fill-2
-slice-aggregate-fill-2 c = sym (length-take-le _ _ (total-long (c .before .before .before .before .before .before .before .before .before .before .before .before .before .before .pre .0) (c .before .before .before .before .before .sets-of .ensures) (c .before .before .before .before .before .before .before .before .before .before .before .before .before .before .pre .2)))
+slice-aggregate-fill-4 : tie.Need-slice-aggregate-fill-4
+slice-aggregate-fill-4 c = sym (length-take-le _ _ (total-long (c .before .before .before .before .before .before .before .before .before .before .before .before .before .before .before .before .before .before .before .before .before .pre .0) (c .before .before .before .before .before .before .before .before .before .before .before .before .sets-of .ensures) (c .before .before .before .before .before .before .before .before .before .before .before .before .before .before .before .before .before .before .before .before .before .pre .2)))
 
-slice-aggregate-fill-3 : tie.Need-slice-aggregate-fill-3
-slice-aggregate-fill-3 c = search needs
+slice-aggregate-fill-5 : tie.Need-slice-aggregate-fill-5
+slice-aggregate-fill-5 c = search needs
 
 fill-requires : tie.Need-fill-requires
 fill-requires c κs =
-    let listed = c .before .before .before .before in
+    let made = c .before .before .before .before .before .before .before .keep-cheapest in
+    let listed = c .before .before .before .before .before .before .before .before .before .before .before in
     let sized = listed .before .before in
     let start = sized .before .before .before .before .before .before .before .before .before in
     let p = start .pre in
-    fill-asked (p .0) (sized .sets-of .ensures) _ (now (start .args .cells)) _ (p .2) (omega arith) (search needs) (listed .sets-below .ensures) (p .1)
+    let long = made .kept .1 .1 .1 .1 .1 .0 in
+    let places = made .kept .1 .1 .1 .1 .1 .1 .0 in
+    fill-asked (p .0) (sized .sets-of .ensures) _ (now (start .args .cells)) _ (p .2) (omega arith) (search needs) (listed .sets-below .ensures) (kept-indexed (p .0) (p .1) (made .ensures) (omega (arith, long)) (omega (arith, places, p .0 .few-nodes))) (kept-covers (p .0) (p .1) (made .ensures))
 
 slice-relend-prefix-mark-all : tie.Need-slice-relend-prefix-mark-all
 slice-relend-prefix-mark-all c = search needs
 
 slice-aggregate-mark-all : tie.Need-slice-aggregate-mark-all
-slice-aggregate-mark-all c = sym (length-take-le _ _ (c .before .before .before .before .before .before .before .before .before .before .before .before .before .before .before .before .before .before .before .before .pre .3))
+slice-aggregate-mark-all c = sym (length-take-le _ _ (c .before .before .before .before .before .before .before .before .before .before .before .before .before .before .before .before .before .before .before .before .before .before .before .before .before .before .before .pre .3))
 
 mark-all-requires : tie.Need-mark-all-requires
 mark-all-requires c κs = search needs
@@ -62,7 +81,7 @@ same-length-2 c = search needs
 returns : tie.Need-returns
 returns c =
     let filled = c .before .before .before .before .before .before .before in
-    let sized = filled .before .before .before .before .before .before .before in
+    let sized = c .before .before .before .before .before .before .before .before .before .before .before .before .before .before .before .before .before .before .before .before .before in
     let start = sized .before .before .before .before .before .before .before .before .before in
     let a = start .args in
     let p = start .pre in
@@ -76,11 +95,16 @@ search-spec =
     mul-total
     slice-aggregate-sets-below
     sets-below-requires
-    array-share-prefix-sets
+    slice-aggregate-keep-cheapest
+    slice-aggregate-keep-cheapest-2
+    keep-cheapest-requires
     slice-aggregate-fill
-    slice-relend-prefix-fill
     slice-aggregate-fill-2
+    array-share-prefix-sets
     slice-aggregate-fill-3
+    slice-relend-prefix-fill
+    slice-aggregate-fill-4
+    slice-aggregate-fill-5
     fill-requires
     slice-relend-prefix-mark-all
     slice-aggregate-mark-all

@@ -33,6 +33,7 @@ use Rattle.working_none.specs.laws.Low.{entry, AllLow}
 use Rattle.order_ranges.specs.laws.Ranges.{entryOf, Ordered, OneSize, first-empty, taken-order}
 use Rattle.settling.specs.laws.ClosedOver.{ArcFrom, ClosedOver}
 use Rattle.settling.specs.laws.Arcs.{startAt, endAt, weightAt, ArcTables}
+use Rattle.settling.specs.laws.Lowered.{AllCovered}
 use Rattle.arc_index.specs.laws.Indexed.{Indexed}
 use Rattle.columns.specs.laws.Searched.{Tables, cells-low}
 use Rattle.columns.specs.laws.ClosedCells.{SetsClosed}
@@ -188,12 +189,21 @@ module _ {n k m : ℕ} {t : SheetTables} (S : Searchable n k m t) where
       split-asked cells whole pos F wide = (sets-in O, R, pos, S .few-nodes, size-few, whole, fill-low cells whole F, omega arith)
 
       -- after the splits
-      pub close-asked : (before cells lanes : List ℕ) {byEnd places : List ℕ} → Indexed n m (G .end) byEnd places → length lanes ≡ n * 4 → length before ≡ n * size
+      pub close-asked : (before cells lanes : List ℕ) {byEnd places : List ℕ} → Indexed n m (G .end) byEnd places
+          → AllCovered m (startAt t) (endAt t) (weightAt t) byEnd (entry places n) → length lanes ≡ n * 4 → length before ≡ n * size
           → Filling G workingNone at first first (cellIn before size) → SplitTo at first last n size n before cells
           → Tables n m size (arcTablesOf t) byEnd places cells lanes
-      close-asked before cells lanes I wide whole F E =
+      close-asked before cells lanes I covered wide whole F E =
           let all : length cells ≡ n * size = E .same-length ∙ whole in
-          record { arcs = arc-tables; index = index-in I; whole = all; low = fill-low cells all (fill-split O R F E); wide = wide }
+          record {
+            arcs = arc-tables;
+            index = index-in I;
+            whole = all;
+            low = fill-low cells all (fill-split O R F E);
+            wide = wide;
+            few-arcs = S .few-arcs;
+            covered = covered;
+          }
 
       -- one size is done
       pub fill-next : {before mid after : List ℕ} → length before ≡ n * size → Filling G workingNone at first first (cellIn before size)
@@ -244,10 +254,11 @@ module _ {n k m : ℕ} {t : SheetTables} (S : Searchable n k m t) where
   -- what is asked of parts of the sets and the cells, where so many are taken, and of so many lanes
   pub fill-asked : {size count : ℕ} {byEnd places : List ℕ} → size ≡ 2 ^ k → (sets cells : List ℕ) (lanes : ℕ) → n * 2 ^ k ≤ length cells → maxNodes * 4 ≤ lanes
       → length sets ≡ maxSubsets → (count ≤ maxSubsets) × Ordered (entryOf sets) count size → Indexed n m (graphIn n k m t .end) byEnd places
+      → AllCovered m (startAt t) (endAt t) (weightAt t) byEnd (entry places n)
       → Searchable n k m t × Indexed n m (graphIn n k m t .end) byEnd places × (length (take (n * size) cells) ≡ n * 2 ^ k)
       × (n * 4 ≤ lanes) × (2 ^ k * 4 ≤ lanes) × Ordered (entryOf (take count sets)) (length (take count sets)) (2 ^ k)
-      × (length (take count sets) ≤ maxSubsets)
-  fill-asked {size} {count} is sets cells lanes long wide all (few, order) I =
+      × (length (take count sets) ≤ maxSubsets) × AllCovered m (startAt t) (endAt t) (weightAt t) byEnd (entry places n)
+  fill-asked {size} {count} is sets cells lanes long wide all (few, order) I covered =
       let so-many : length (take count sets) ≡ count = length-take-le count sets (omega arith) in (
         S,
         I,
@@ -256,6 +267,7 @@ module _ {n k m : ℕ} {t : SheetTables} (S : Searchable n k m t) where
         omega (arith, few-sets S),
         subst₂ (Ordered (entryOf (take count sets))) (sym so-many) is (taken-order count sets order),
         omega arith,
+        covered,
       )
 
   -- the first cells are the cost table, and later ones are untouched
