@@ -14,7 +14,7 @@ ghost use Rattle.limits.specs.Limits.{maxNodes};
 ghost use Rattle.settling.specs.laws.LowerFour.{LoweredAt};
 ghost use Rattle.turn_table.specs.laws.Entries.{turnEntries};
 ghost use Rattle.lanes.specs.laws.Four.{FourLow};
-ghost use Rattle.visits.specs.laws.ByIndex.{SomeArcs, Entries, Weighed, ArcsAt, LoweredByIndex};
+ghost use Rattle.visits.specs.laws.ByIndex.{SomeArcs, Entries, LoweredByIndex};
 
 // Each cell of site u that is above what a leg gives falls to it, and the site has a turn.
 fn lower_in_turn(round: u8, u: usize, by: Four, lanes: &mut [Cost], turns: &mut [u64])
@@ -51,42 +51,7 @@ fn next_falling(
     i
 }
 
-// The entry of the index, of two, whose leg is the cheaper; the first where both cost the same.
-fn cheaper(weights: &[u32], index: &[u16], x: usize, y: usize) -> usize
-    requires { ⌜ (x ≤ y) × Weighed (now weights) (now index) x × Weighed (now weights) (now index) y ⌝ }
-    ensures { λ r. ⌜ (x ≤ r) × (r ≤ y) ⌝ }
-{
-    if weights[index[y] as usize] < weights[index[x] as usize] {
-        return y;
-    }
-    x
-}
-
-// Of the entries of the index from `first` on, up to the first one whose leg has another start, or to `end`: that of a cheapest leg.
-fn cheapest_beside(
-    starts: &[u16],
-    weights: &[u32],
-    index: &[u16],
-    first: usize,
-    end: usize,
-) -> usize
-    requires { ⌜ (first < end) × ArcsAt (now starts) (now weights) (now index) first end ⌝ }
-    ensures { λ r. ⌜ (first ≤ r) × (r < end) ⌝ }
-{
-    let start = starts[index[first] as usize];
-    let mut best = first;
-    let mut i = first + 1;
-    while i < end {
-        if starts[index[i] as usize] != start {
-            return best;
-        }
-        best = cheaper(weights, index, best, i);
-        i += 1;
-    }
-    best
-}
-
-// The legs that end at site v, by the index: where one gives less, the cells of its start fall. Of parallel legs, a cheapest one lowers them.
+// The legs that end at site v, by the index: where one gives less, the cells of its start fall.
 pub fn visit(
     starts: &[u16],
     weights: &[u32],
@@ -108,7 +73,7 @@ pub fn visit(
     let first = places[v] as usize;
     let mut i = next_falling(starts, weights, index, here, first, end, lanes);
     while i < end {
-        let e = index[cheapest_beside(starts, weights, index, i, end)] as usize;
+        let e = index[i] as usize;
         let start = starts[e] as usize;
         let by = along(here, weights[e]);
         lower_in_turn(round, start, by, lanes, turns);

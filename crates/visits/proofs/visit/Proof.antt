@@ -2,12 +2,11 @@
 -- Assumes nothing.
 use Prim.Native.Nat.{_+_, _-_, _≤_}
 use mathlib.Core.Path.{_≡_, _∙_}
-use native.Mathlib.Nat.{le-trans}
 use native.Mathlib.Omega.{arith}
 use lib.ListN.{length}
 use Rattle.working_none.specs.laws.Low.{entry}
 use Rattle.turn_table.specs.laws.Entries.{turnEntries}
-use Rattle.visits.specs.laws.ByIndex.{LoweredByIndex, index-none, index-length, at-node, here-low, in-group, group-from, group-arc, arcs-at}
+use Rattle.visits.specs.laws.ByIndex.{LoweredByIndex, index-none, index-length, at-node, here-low, in-group, group-from, group-arc}
 use Rattle.visits.proofs.visit.Statement.{statement}
 use Rattle.visits.proofs.visit.Tie as tie
 
@@ -50,93 +49,62 @@ next-falling-requires c κs =
 loop-holds : tie.Need-loop-holds Inv-loop μ-loop
 loop-holds c = (c .next-falling .ensures, c .before .before .before .before .before .before .before .before .before .before .before .before .pre .0, index-none)
 
-cheapest-beside-requires : tie.Need-cheapest-beside-requires Inv-loop μ-loop
-cheapest-beside-requires c κs =
-    let turn = c .before in
-    let start = turn .before .before .before .before .before .before .before .before .before .before .before .before .before in
-    (c .loop-test .taken, arcs-at (group-from (start .pre .2) (start .pre .1) (turn .loop .inv .2) (turn .loop .inv .0)))
-
 mul-e : tie.Need-mul-e Inv-loop μ-loop
-mul-e c =
-    let chosen = c in
-    let turn = chosen .before .before in
-    let start = turn .before .before .before .before .before .before .before .before .before .before .before .before .before in
-    let r = chosen .cheapest-beside .ensures in
-    omega (arith, in-group (start .pre .2) (start .pre .1) (turn .loop .inv .2) (le-trans (turn .loop .inv .0) (r .0)) (r .1))
+mul-e c = omega (arith, in-group (c .before .before .before .before .before .before .before .before .before .before .before .before .before .before .pre .2) (c .before .before .before .before .before .before .before .before .before .before .before .before .before .before .pre .1) (c .before .loop .inv .2) (c .before .loop .inv .0) (c .loop-test .taken))
 
 shared-slice-read-e : tie.Need-shared-slice-read-e Inv-loop μ-loop
-shared-slice-read-e c =
-    let chosen = c .before in
-    let turn = chosen .before .before in
-    let start = turn .before .before .before .before .before .before .before .before .before .before .before .before .before in
-    let r = chosen .cheapest-beside .ensures in
-    in-group (start .pre .2) (start .pre .1) (turn .loop .inv .2) (le-trans (turn .loop .inv .0) (r .0)) (r .1) .on
+shared-slice-read-e c = in-group (c .before .before .before .before .before .before .before .before .before .before .before .before .before .before .before .pre .2) (c .before .before .before .before .before .before .before .before .before .before .before .before .before .before .before .pre .1) (c .before .before .loop .inv .2) (c .before .before .loop .inv .0) (c .before .loop-test .taken) .on
 
 cast-e : tie.Need-cast-e Inv-loop μ-loop
-cast-e c = omega (arith, c .shared-slice-known7 .given (c .before .cheapest-beside .result))
+cast-e c = omega (arith, c .shared-slice-known7 .given (c .before .before .loop .i))
 
 mul-start : tie.Need-mul-start Inv-loop μ-loop
-mul-start c =
-    let chosen = c .before in
-    let turn = chosen .before .before in
-    let start = turn .before .before .before .before .before .before .before .before .before .before .before .before .before in
-    let r = chosen .cheapest-beside .ensures in
-    omega (arith, in-group (start .pre .2) (start .pre .1) (turn .loop .inv .2) (le-trans (turn .loop .inv .0) (r .0)) (r .1))
+mul-start c = omega (arith, in-group (c .before .before .before .before .before .before .before .before .before .before .before .before .before .before .before .pre .2) (c .before .before .before .before .before .before .before .before .before .before .before .before .before .before .before .pre .1) (c .before .before .loop .inv .2) (c .before .before .loop .inv .0) (c .before .loop-test .taken))
 
 shared-slice-read-start : tie.Need-shared-slice-read-start Inv-loop μ-loop
 shared-slice-read-start c =
-    let chosen = c .before .before in
-    let turn = chosen .before .before in
+    let turn = c .before .before .before in
     let start = turn .before .before .before .before .before .before .before .before .before .before .before .before .before in
-    let r = chosen .cheapest-beside .ensures in
-    in-group (start .pre .2) (start .pre .1) (turn .loop .inv .2) (le-trans (turn .loop .inv .0) (r .0)) (r .1) .starts-on
+    in-group (start .pre .2) (start .pre .1) (turn .loop .inv .2) (turn .loop .inv .0) (c .before .before .loop-test .taken) .starts-on
 
 cast-start : tie.Need-cast-start Inv-loop μ-loop
 cast-start c =
-    let chosen = c .before .before in
-    let turn = chosen .before .before in
+    let turn = c .before .before .before in
     let start = turn .before .before .before .before .before .before .before .before .before .before .before .before .before in
-    let r = chosen .cheapest-beside .ensures in
-    omega (arith, in-group (start .pre .2) (start .pre .1) (turn .loop .inv .2) (le-trans (turn .loop .inv .0) (r .0)) (r .1))
+    omega (arith, in-group (start .pre .2) (start .pre .1) (turn .loop .inv .2) (turn .loop .inv .0) (c .before .before .loop-test .taken))
 
 mul-along : tie.Need-mul-along Inv-loop μ-loop
 mul-along c =
-    let chosen = c .before .before in
-    let turn = chosen .before .before in
+    let turn = c .before .before .before in
     let start = turn .before .before .before .before .before .before .before .before .before .before .before .before .before in
-    let r = chosen .cheapest-beside .ensures in
-    omega (arith, in-group (start .pre .2) (start .pre .1) (turn .loop .inv .2) (le-trans (turn .loop .inv .0) (r .0)) (r .1))
+    omega (arith, in-group (start .pre .2) (start .pre .1) (turn .loop .inv .2) (turn .loop .inv .0) (c .before .before .loop-test .taken))
 
 shared-slice-read-along : tie.Need-shared-slice-read-along Inv-loop μ-loop
 shared-slice-read-along c =
-    let chosen = c .before .before .before in
-    let turn = chosen .before .before in
+    let tested = c .before .before .before in
+    let turn = tested .before in
     let start = turn .before .before .before .before .before .before .before .before .before .before .before .before .before in
-    let r = chosen .cheapest-beside .ensures in
-    in-group (start .pre .2) (start .pre .1) (turn .loop .inv .2) (le-trans (turn .loop .inv .0) (r .0)) (r .1) .weights-on
+    in-group (start .pre .2) (start .pre .1) (turn .loop .inv .2) (turn .loop .inv .0) (tested .loop-test .taken) .weights-on
 
 along-requires : tie.Need-along-requires Inv-loop μ-loop
 along-requires c κs =
-    let chosen = c .before .before .before in
-    let tested = chosen .before in
+    let tested = c .before .before .before in
     let turn = tested .before in
     let read = turn .before .before .before .before .before in
     let start = read .before .before .before .before .before .before .before .before in
-    let r = chosen .cheapest-beside .ensures in
-    (here-low (start .pre .2) (start .pre .1) (read .lanes-of .ensures), in-group (start .pre .2) (start .pre .1) (turn .loop .inv .2) (le-trans (turn .loop .inv .0) (r .0)) (r .1) .weight-low)
+    (here-low (start .pre .2) (start .pre .1) (read .lanes-of .ensures), in-group (start .pre .2) (start .pre .1) (turn .loop .inv .2) (turn .loop .inv .0) (tested .loop-test .taken) .weight-low)
 
 lower-in-turn-requires : tie.Need-lower-in-turn-requires Inv-loop μ-loop
 lower-in-turn-requires c κs =
-    let chosen = c .before .before .before .before .before .before in
-    let turn = chosen .before .before in
+    let tested = c .before .before .before .before .before .before in
+    let turn = tested .before in
     let start = turn .before .before .before .before .before .before .before .before .before .before .before .before .before in
-    let r = chosen .cheapest-beside .ensures in
-    let e = in-group (start .pre .2) (start .pre .1) (turn .loop .inv .2) (le-trans (turn .loop .inv .0) (r .0)) (r .1) in
+    let e = in-group (start .pre .2) (start .pre .1) (turn .loop .inv .2) (turn .loop .inv .0) (tested .loop-test .taken) in
     (turn .loop .inv .1, e .start-lt, e .fits)
 
 add-next-falling : tie.Need-add-next-falling Inv-loop μ-loop
 add-next-falling c =
-    let tested = c .before .before .before .before .before .before .before .before .before .before .before .before in
+    let tested = c .before .before .before .before .before .before .before .before .before .before .before in
     let placed = tested .before .before .before .before .before in
     let start = placed .before .before .before .before .before .before .before .before .before in
     omega (arith, tested .loop-test .taken, placed .shared-slice-known5 .given (start .args .v + 1))
@@ -145,30 +113,24 @@ next-falling-requires-2 : tie.Need-next-falling-requires-2 Inv-loop μ-loop
 next-falling-requires-2 c κs =
     let lowered = c .before .before .before .before .before in
     let given = lowered .before .before .before in
-    let chosen = c .before .before .before .before .before .before .before .before .before .before .before .before in
-    let tested = chosen .before in
+    let tested = given .before .before .before .before in
     let turn = tested .before in
     let read = turn .before .before .before .before .before in
     let start = read .before .before .before .before .before .before .before .before in
-    let r = chosen .cheapest-beside .ensures in
-    let next = group-arc (turn .loop .inv .2) (start .pre .1) (le-trans (turn .loop .inv .0) (r .0)) (r .1) (read .lanes-of .ensures) (given .along .ensures) (lowered .lower-in-turn .ensures) in
-    (here-low (start .pre .2) (start .pre .1) (read .lanes-of .ensures), group-from (start .pre .2) (start .pre .1) next (omega (arith, turn .loop .inv .0)))
+    (here-low (start .pre .2) (start .pre .1) (read .lanes-of .ensures), group-from (start .pre .2) (start .pre .1) (group-arc (turn .loop .inv .2) (start .pre .1) (turn .loop .inv .0) (tested .loop-test .taken) (read .lanes-of .ensures) (given .along .ensures) (lowered .lower-in-turn .ensures)) (omega (arith, turn .loop .inv .0)))
 
 loop-less : tie.Need-loop-less Inv-loop μ-loop
-loop-less c = omega (arith, c .next-falling2 .ensures, c .before .before .before .before .before .before .before .before .before .before .before .before .before .before .loop-test .taken)
+loop-less c = omega (arith, c .next-falling2 .ensures, c .before .before .before .before .before .before .before .before .before .before .before .before .before .loop-test .taken)
 
 loop-again : tie.Need-loop-again Inv-loop μ-loop
 loop-again c =
     let lowered = c .before .before .before .before .before .before in
     let given = lowered .before .before .before in
-    let chosen = c .before .before .before .before .before .before .before .before .before .before .before .before .before in
-    let tested = chosen .before in
+    let tested = given .before .before .before .before in
     let turn = tested .before in
     let read = turn .before .before .before .before .before in
     let start = read .before .before .before .before .before .before .before .before in
-    let r = chosen .cheapest-beside .ensures in
-    let next = group-arc (turn .loop .inv .2) (start .pre .1) (le-trans (turn .loop .inv .0) (r .0)) (r .1) (read .lanes-of .ensures) (given .along .ensures) (lowered .lower-in-turn .ensures) in
-    (omega (arith, c .next-falling2 .ensures, turn .loop .inv .0), lowered .lower-in-turn .kept .1 .1 .1 .1 .0 ∙ turn .loop .inv .1, next)
+    (omega (arith, c .next-falling2 .ensures, turn .loop .inv .0), lowered .lower-in-turn .kept .1 .1 .1 .1 .0 ∙ turn .loop .inv .1, group-arc (turn .loop .inv .2) (start .pre .1) (turn .loop .inv .0) (tested .loop-test .taken) (read .lanes-of .ensures) (given .along .ensures) (lowered .lower-in-turn .ensures))
 
 same-length : tie.Need-same-length Inv-loop μ-loop
 same-length c = index-length (c .before .loop .inv .2) (c .before .before .before .before .before .before .before .before .before .before .before .before .before .before .pre .2)
@@ -195,7 +157,6 @@ visit-spec =
     cast-first
     next-falling-requires
     loop-holds
-    cheapest-beside-requires
     mul-e
     shared-slice-read-e
     cast-e

@@ -79,22 +79,6 @@ pub record InGroup (starts weights byEnd lanes : List ℕ) (i : ℕ) : Type 0 wh
 pub record Entries (starts weights byEnd lanes : List ℕ) (from end : ℕ) : Type 0 where
   pub each : (i : ℕ) → from ≤ i → i < end → InGroup starts weights byEnd lanes i
 
--- entry i has an arc with a weight
-pub record Weighed (weights byEnd : List ℕ) (i : ℕ) : Type 0 where
-  pub on : i < length byEnd
-  pub weights-on : entry byEnd i < length weights
-
--- each entry from `from` up to `end` has one, with a start
-pub record ArcsAt (starts weights byEnd : List ℕ) (from end : ℕ) : Type 0 where
-  pub weighed : (i : ℕ) → from ≤ i → i < end → Weighed weights byEnd i
-  pub starts-on : (i : ℕ) → from ≤ i → i < end → entry byEnd i < length starts
-
-pub arcs-at : {starts weights byEnd lanes : List ℕ} {from end : ℕ} → Entries starts weights byEnd lanes from end → ArcsAt starts weights byEnd from end
-arcs-at E = record {
-  weighed = λ i f t. record { on = E .each i f t .on; weights-on = E .each i f t .weights-on };
-  starts-on = λ i f t. E .each i f t .starts-on;
-}
-
 module _ {n v : ℕ} {starts weights byEnd places before mid : List ℕ} (S : SomeArcs n starts weights byEnd places before) (on : v < n)
     (L : LoweredByIndex n starts weights byEnd places before mid) where
   pub in-group : {i : ℕ} → entry places v ≤ i → i < entry places (v + 1) → InGroup starts weights byEnd mid i
