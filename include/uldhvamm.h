@@ -37,7 +37,7 @@
  *
  * Stack
  *   A call allocates nothing, keeps nothing and may run in any number of threads at once. As measured (bench/tests/stack.rs), it runs in a
- *   thread with 52 KiB of stack; nothing proves this.
+ *   thread with 56 KiB of stack; nothing proves this.
  */
 #ifndef ULDHVAMM_H
 #define ULDHVAMM_H

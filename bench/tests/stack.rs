@@ -1,4 +1,4 @@
-//! The library in a thread with a stack of 52 KiB, which does nothing but the call.
+//! The library in a thread with a stack of 56 KiB, which does nothing but the call.
 
 use std::thread;
 use uldhvamm::enquire;
@@ -7,7 +7,7 @@ use uldhvamm_bench::compare::{call_library, call_reference, difference, Call, Ru
 use uldhvamm_bench::reference::due;
 use uldhvamm_bench::sheets::{chain, licensed, random_sheet, Chain, Order, Random, Sheet};
 
-const STACK: usize = 52 * 1024;
+const STACK: usize = 56 * 1024;
 
 /// Tables of garbage for a sheet.
 fn garbage(sheet: &Sheet) -> Tables {
