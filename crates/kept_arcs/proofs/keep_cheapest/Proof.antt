@@ -1,6 +1,6 @@
 -- `kept_arcs::keep_cheapest` meets its contract. The loop's invariant: the groups so far are kept.
 -- Assumes nothing.
-use Prim.Native.Nat.{ℕ, _+_, _-_, _≤_}
+use Prim.Native.Nat.{_+_, _-_, _≤_, _<_}
 use mathlib.Core.Path.{_≡_, refl, sym, _∙_}
 use native.Mathlib.Omega.{arith}
 use lib.ListN.{length, length-set}
@@ -71,7 +71,10 @@ mul-begins : tie.Need-mul-begins Inv-loop μ-loop
 mul-begins c = omega (arith, c .before .before .before .before .before .before .before .before .loop-test .taken, c .before .before .before .before .before .before .before .before .before .before .before .before .before .before .before .before .pre .0 .few)
 
 slice-write-begins-2 : tie.Need-slice-write-begins-2 Inv-loop μ-loop
-slice-write-begins-2 c = omega (arith, c .before .before .before .before .before .before .before .before .loop-test .taken, c .before .before .before .before .before .before .before .before .before .loop .inv .2, c .before .before .before .before .before .before .before .before .before .before .before .before .before .before .before .before .pre .2, length-set (now (c .before .before .before .before .before .before .before .before .before .before .before .before .before .before .before .before .args .begins)) 0 0)
+slice-write-begins-2 c =
+    let turn = c .before .before .before .before .before .before .before .before .before in
+    let start = turn .before .before .before .before .before .before .before in
+    omega (arith, c .before .before .before .before .before .before .before .before .loop-test .taken, turn .loop .inv .2, start .pre .2, length-set (now (start .args .begins)) 0 0)
 
 loop-less : tie.Need-loop-less Inv-loop μ-loop
 loop-less c = omega (arith, c .before .before .before .before .before .before .before .before .loop-test .taken)
@@ -84,7 +87,9 @@ loop-again c =
     let on = c .before .before .before .before .before .before .before .before .loop-test .taken in
     let made = c .before .before .before .keep-group in
     let begins = turn .loop .begins in
-    (omega (arith, on), made .ensures .same-length ∙ l .1, length-set begins _ _ ∙ l .2, made .kept .1 .1 .1 .1 .1 .1 .0 ∙ l .3, groups-next begins (omega (arith, on, l .2, p .2, length-set (now (turn .before .before .before .before .before .before .before .args .begins)) 0 0)) (l .4) (made .ensures))
+    let written = length-set (now (turn .before .before .before .before .before .before .before .args .begins)) 0 0 in
+    let fits : turn .loop .v + 1 < length begins = omega (arith, on, l .2, p .2, written) in
+    (omega (arith, on), made .ensures .same-length ∙ l .1, length-set begins _ _ ∙ l .2, made .kept .1 .1 .1 .1 .1 .1 .0 ∙ l .3, groups-next begins fits (l .4) (made .ensures))
 
 same-length : tie.Need-same-length Inv-loop μ-loop
 same-length c = c .before .loop .inv .1

@@ -1,6 +1,6 @@
 -- `kept_arcs::keep_group` meets its contract. The loop's invariant: the legs so far are kept.
 -- Assumes nothing.
-use Prim.Native.Nat.{ℕ, _-_, _≤_, _<_}
+use Prim.Native.Nat.{_-_, _≤_}
 use mathlib.Core.Path.{_≡_, _∙_}
 use native.Mathlib.Omega.{arith}
 use lib.ListN.{length}

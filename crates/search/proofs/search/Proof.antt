@@ -44,10 +44,16 @@ slice-aggregate-fill-3 : tie.Need-slice-aggregate-fill-3
 slice-aggregate-fill-3 c = sym (length-take-le _ _ (omega (arith, c .before .before .before .before .before .before .before .before .before .sets-below .ensures .0)))
 
 slice-relend-prefix-fill : tie.Need-slice-relend-prefix-fill
-slice-relend-prefix-fill c = total-long (c .before .before .before .before .before .before .before .before .before .before .before .before .before .before .before .before .before .before .before .before .pre .0) (c .before .before .before .before .before .before .before .before .before .before .before .sets-of .ensures) (c .before .before .before .before .before .before .before .before .before .before .before .before .before .before .before .before .before .before .before .before .pre .2)
+slice-relend-prefix-fill c =
+    let sized = c .before .before .before .before .before .before .before .before .before .before .before in
+    let start = sized .before .before .before .before .before .before .before .before .before in
+    total-long (start .pre .0) (sized .sets-of .ensures) (start .pre .2)
 
 slice-aggregate-fill-4 : tie.Need-slice-aggregate-fill-4
-slice-aggregate-fill-4 c = sym (length-take-le _ _ (total-long (c .before .before .before .before .before .before .before .before .before .before .before .before .before .before .before .before .before .before .before .before .before .pre .0) (c .before .before .before .before .before .before .before .before .before .before .before .before .sets-of .ensures) (c .before .before .before .before .before .before .before .before .before .before .before .before .before .before .before .before .before .before .before .before .before .pre .2)))
+slice-aggregate-fill-4 c =
+    let sized = c .before .before .before .before .before .before .before .before .before .before .before .before in
+    let start = sized .before .before .before .before .before .before .before .before .before in
+    sym (length-take-le _ _ (total-long (start .pre .0) (sized .sets-of .ensures) (start .pre .2)))
 
 slice-aggregate-fill-5 : tie.Need-slice-aggregate-fill-5
 slice-aggregate-fill-5 c = search needs
@@ -61,7 +67,8 @@ fill-requires c κs =
     let p = start .pre in
     let long = made .kept .1 .1 .1 .1 .1 .0 in
     let places = made .kept .1 .1 .1 .1 .1 .1 .0 in
-    fill-asked (p .0) (sized .sets-of .ensures) _ (now (start .args .cells)) _ (p .2) (omega arith) (search needs) (listed .sets-below .ensures) (kept-indexed (p .0) (p .1) (made .ensures) (omega (arith, long)) (omega (arith, places, p .0 .few-nodes))) (kept-covers (p .0) (p .1) (made .ensures))
+    fill-asked (p .0) (sized .sets-of .ensures) _ (now (start .args .cells)) _ (p .2) (omega arith) (search needs) (listed .sets-below .ensures)
+    (kept-indexed (p .0) (p .1) (made .ensures) (omega (arith, long)) (omega (arith, places, p .0 .few-nodes))) (kept-covers (p .0) (p .1) (made .ensures))
 
 slice-relend-prefix-mark-all : tie.Need-slice-relend-prefix-mark-all
 slice-relend-prefix-mark-all c = search needs

@@ -54,13 +54,25 @@ mul-lower : tie.Need-mul-lower Inv-loop μ-loop
 mul-lower c = omega (arith, c .before .before .before .before .before .before .before .before .before .before .before .before .before .before .pre .arc-few (c .before .before .before .before .before .before .before .before .loop .i) (c .before .before .before .before .before .before .before .loop-test .taken))
 
 shared-slice-read-lower : tie.Need-shared-slice-read-lower Inv-loop μ-loop
-shared-slice-read-lower c = still-lanes (c .before .before .before .before .before .before .before .before .before .loop .inv .1 .lowered) (c .before .before .before .before .before .before .before .before .before .before .before .before .before .before .before .pre) .known (c .before .before .before .before .before .before .before .before .before .loop .i) (c .before .before .before .before .before .before .before .before .loop-test .taken) .starts-long
+shared-slice-read-lower c =
+    let tested = c .before .before .before .before .before .before .before .before in
+    let turn = tested .before in
+    let start = turn .before .before .before .before .before .before in
+    still-lanes (turn .loop .inv .1 .lowered) (start .pre) .known (turn .loop .i) (tested .loop-test .taken) .starts-long
 
 cast-lower : tie.Need-cast-lower Inv-loop μ-loop
-cast-lower c = omega (arith, still-lanes (c .before .before .before .before .before .before .before .before .before .loop .inv .1 .lowered) (c .before .before .before .before .before .before .before .before .before .before .before .before .before .before .before .pre) .known (c .before .before .before .before .before .before .before .before .before .loop .i) (c .before .before .before .before .before .before .before .before .loop-test .taken))
+cast-lower c =
+    let tested = c .before .before .before .before .before .before .before .before in
+    let turn = tested .before in
+    let start = turn .before .before .before .before .before .before in
+    omega (arith, still-lanes (turn .loop .inv .1 .lowered) (start .pre) .known (turn .loop .i) (tested .loop-test .taken))
 
 lower-requires : tie.Need-lower-requires Inv-loop μ-loop
-lower-requires c κs = still-lanes (c .before .before .before .before .before .before .before .before .before .loop .inv .1 .lowered) (c .before .before .before .before .before .before .before .before .before .before .before .before .before .before .before .pre) .known (c .before .before .before .before .before .before .before .before .before .loop .i) (c .before .before .before .before .before .before .before .before .loop-test .taken) .start-fits
+lower-requires c κs =
+    let tested = c .before .before .before .before .before .before .before .before in
+    let turn = tested .before in
+    let start = turn .before .before .before .before .before .before in
+    still-lanes (turn .loop .inv .1 .lowered) (start .pre) .known (turn .loop .i) (tested .loop-test .taken) .start-fits
 
 add-i : tie.Need-add-i Inv-loop μ-loop
 add-i c = search needs

@@ -1,7 +1,7 @@
 -- The cells of one set at four nodes of a table, and the rows of four nodes as a list that has four cells for each set; and what is asked of the table.
 -- Assumes nothing.
 use Prim.Native.Nat.{ℕ, _+_, _-_, _*_, _≤_, _<_}
-use mathlib.Core.Path.{_≡_, refl}
+use mathlib.Core.Path.{refl}
 use mathlib.Core.List.{List}
 use native.Mathlib.Omega.{arith}
 use lib.ListN.{length}
