@@ -46,28 +46,28 @@ fn is_parallel(
 }
 
 // Leg e is kept among the legs of its end, which are the entries from `first` up to `count`: in the place of a dearer one with its start, or behind them.
-// An entry of `places` says where a leg with that start may be.
+// `last` says of each site where the last leg from there was kept.
 fn keep_arc(
     starts: &[u16],
     weights: &[u32],
     e: u16,
     first: usize,
     count: usize,
-    places: &mut [u16],
+    last: &mut [u16],
     kept: &mut [u16],
 ) -> usize
-    requires { ⌜ (e < length (now starts)) × (e < length (now weights)) × (entry (now starts) e < length (now places)) × (first ≤ count)
+    requires { ⌜ (e < length (now starts)) × (e < length (now weights)) × (entry (now starts) e < length (now last)) × (first ≤ count)
         × (count < length (now kept)) × (count < maxArcs)
         × ((p : ℕ) → first ≤ p → p < count → (entry (now kept) p < length (now starts)) × (entry (now kept) p < length (now weights))) ⌝ }
     ensures { λ r. ⌜ KeptOne (now (starts .entry)) (now (weights .entry)) e first count r (now (kept .entry)) (now (kept .exit)) ⌝ }
 {
     let start = starts[e as usize];
-    let place = places[start as usize] as usize;
+    let place = last[start as usize] as usize;
     if is_parallel(starts, kept, first, count, place, start) {
         kept[place] = cheaper(weights, kept[place], e);
         return count;
     }
-    places[start as usize] = count as u16;
+    last[start as usize] = count as u16;
     kept[count] = e;
     count + 1
 }
@@ -80,17 +80,17 @@ fn keep_group(
     from: usize,
     end: usize,
     first: usize,
-    places: &mut [u16],
+    last: &mut [u16],
     kept: &mut [u16],
 ) -> usize
-    requires { ⌜ (length (now places) ≡ maxNodes) × (from ≤ end) × (first + end ≤ from + maxArcs) × (maxArcs ≤ length (now kept))
+    requires { ⌜ (length (now last) ≡ maxNodes) × (from ≤ end) × (first + end ≤ from + maxArcs) × (maxArcs ≤ length (now kept))
         × ((j : ℕ) → from ≤ j → j < end → ArcAt (now starts) (now weights) (now list) j) ⌝ }
     ensures { λ r. ⌜ KeptTo (now (starts .entry)) (now (weights .entry)) (now (list .entry)) from end first r (now (kept .entry)) (now (kept .exit)) ⌝ }
 {
     let mut count = first;
     let mut i = from;
     while i < end {
-        count = keep_arc(starts, weights, list[i], first, count, places, kept);
+        count = keep_arc(starts, weights, list[i], first, count, last, kept);
         i += 1;
     }
     count

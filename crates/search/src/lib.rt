@@ -1,5 +1,5 @@
 // The search: the cost table over the graph that loaded tables hold (document 01, "The cost table").
-// It starts with the landings; then, size by size, the sets are split at each site, and closed over the legs.
+// Of parallel legs a cheapest one is kept. The cells start with the landings; then, size by size, the sets are split at each site, and closed over the legs.
 use columns::close_sets;
 use kept_arcs::keep_cheapest;
 use limits::Cost;
@@ -33,8 +33,8 @@ const MAX_ARCS: usize = limits::MAX_ARCS as usize;
 
 const MAX_PLACES: usize = limits::MAX_NODES as usize + 1;
 
-// The cells of all sites and sets. The index may leave out legs that are dearer than parallel ones;
-// `sets` has the sets in their order, `lanes` four entries for each site and for each set.
+// The cells of all sites and sets. The index may leave out legs that are dearer than parallel ones; `sets` has the sets in their order, and `lanes` four
+// entries for each site and for each set.
 fn fill(
     starts: &[u16],
     ends: &[u16],
@@ -51,8 +51,8 @@ fn fill(
 )
     requires { ⌜ (let t = sheetTables (now starts) (now ends) (now weights) (now landings) in
         (Searchable n k arcs t × Indexed n arcs (graphIn n k arcs t .end) (now index) (now places) × (length (now cells) ≡ n * 2 ^ k)
-        × (n * 4 ≤ length (now lanes)) × (2 ^ k * 4 ≤ length (now lanes)) × Ordered (entryOf (now sets)) (length (now sets)) (2 ^ k) × (length (now sets) ≤ maxSubsets)
-        × AllCovered arcs (startAt t) (endAt t) (weightAt t) (now index) (entry (now places) n))) ⌝ }
+        × (n * 4 ≤ length (now lanes)) × (2 ^ k * 4 ≤ length (now lanes)) × Ordered (entryOf (now sets)) (length (now sets)) (2 ^ k)
+        × (length (now sets) ≤ maxSubsets) × AllCovered arcs (startAt t) (endAt t) (weightAt t) (now index) (entry (now places) n))) ⌝ }
     ensures { λ _. ⌜ (let t = sheetTables (now (starts .entry)) (now (ends .entry)) (now (weights .entry)) (now (landings .entry)) in
         (now (cells .exit) ≡ costTable (graphIn n k arcs t) noCost)) ⌝ }
 {

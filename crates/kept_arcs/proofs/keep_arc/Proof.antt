@@ -54,17 +54,17 @@ returns c =
     let found = c .before .before .before .is-parallel .ensures (c .before .before .if1 .taken) in
     kept-cheaper (now (a .starts)) (now (a .weights)) (now (a .kept)) (a .e) (a .first) (a .count) _ _ (found .0) (found .1) (omega (arith, found .1, start .pre .4)) (found .2) (c .cheaper .ensures)
 
-cast-places : tie.Need-cast-places
-cast-places c = search needs
+cast-last : tie.Need-cast-last
+cast-last c = search needs
 
-cast-places-2 : tie.Need-cast-places-2
-cast-places-2 c = search needs
+cast-last-2 : tie.Need-cast-last-2
+cast-last-2 c = search needs
 
-mul-places : tie.Need-mul-places
-mul-places c = search needs
+mul-last : tie.Need-mul-last
+mul-last c = search needs
 
-slice-write-places : tie.Need-slice-write-places
-slice-write-places c = search needs
+slice-write-last : tie.Need-slice-write-last
+slice-write-last c = search needs
 
 mul-kept-2 : tie.Need-mul-kept-2
 mul-kept-2 c = search needs
@@ -105,10 +105,10 @@ keep-arc-spec =
     slice-write-kept
     same-length
     returns
-    cast-places
-    cast-places-2
-    mul-places
-    slice-write-places
+    cast-last
+    cast-last-2
+    mul-last
+    slice-write-last
     mul-kept-2
     slice-write-kept-2
     add-result

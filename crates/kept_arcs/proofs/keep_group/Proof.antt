@@ -12,10 +12,10 @@ use Rattle.kept_arcs.proofs.keep_group.Statement.{statement}
 use Rattle.kept_arcs.proofs.keep_group.Tie as tie
 
 abbrev Inv-loop : tie.InvT-loop
-Inv-loop starts weights list from end first places₀ kept₀ count₀ i₀ places kept count i = (i ≤ end) × (length places ≡ maxNodes) × KeptTo starts weights list from i first count kept₀ kept
+Inv-loop starts weights list from end first last₀ kept₀ count₀ i₀ last kept count i = (i ≤ end) × (length last ≡ maxNodes) × KeptTo starts weights list from i first count kept₀ kept
 
 abbrev μ-loop : tie.MeasureT-loop
-μ-loop starts weights list from end first places₀ kept₀ count₀ i₀ places kept count i = end - i
+μ-loop starts weights list from end first last₀ kept₀ count₀ i₀ last kept count i = end - i
 
 loop-holds : tie.Need-loop-holds Inv-loop μ-loop
 loop-holds c = let p = c .before .before .before .before .before .pre in (p .1, p .0, kept-none)

@@ -41,7 +41,6 @@ pub record KeptGroups (starts weights list places : List ℕ) (v count : ℕ) (k
   pub zero : entry begins 0 ≡ 0
   pub here : entry begins v ≡ count
   pub low : (u : ℕ) → u ≤ v → entry begins u ≤ entry places u
-  pub rises : (u : ℕ) → u < v → entry begins u ≤ entry begins (u + 1)
   pub below : (u : ℕ) → u ≤ v → entry begins u ≤ count
   pub members : (u p : ℕ) → u < v → entry begins u ≤ p → p < entry begins (u + 1)
       → (j : ℕ) × (entry places u ≤ j) × (j < entry places (u + 1)) × (entry kept p ≡ entry list j)
@@ -54,7 +53,6 @@ module _ {starts weights list places : List ℕ} where
     zero = getD-set-same begins 0 0 0 some;
     here = getD-set-same begins 0 0 0 some;
     low = λ u l. let z : u ≡ 0 = omega arith in omega (arith, ap (entry (set begins 0 0)) z, getD-set-same begins 0 0 0 some);
-    rises = λ u l. absurd (omega arith);
     below = λ u l. let z : u ≡ 0 = omega arith in omega (arith, ap (entry (set begins 0 0)) z, getD-set-same begins 0 0 0 some);
     members = λ u p l. absurd (omega arith);
     covered = λ u j l. absurd (omega arith);
@@ -67,7 +65,6 @@ module _ {starts weights list places : List ℕ} where
     zero = old 0 (omega arith) ∙ G .zero;
     here = now-here;
     low = λ u l. lows u l (ℕ-discrete u (v + 1));
-    rises = λ u l. rise u l (ℕ-discrete u v);
     below = λ u l. belows u l (ℕ-discrete u (v + 1));
     members = λ u p l a b. member u p l a b (ℕ-discrete u v);
     covered = λ u j l a b. cover u j l a b (ℕ-discrete u v);
@@ -83,11 +80,6 @@ module _ {starts weights list places : List ℕ} where
       lows u l (yes q) =
           omega (arith, ap (entry (set begins (v + 1) r)) q, now-here, ap (entry places) q, K .most, G .low v (omega arith), G .here)
       lows u l (no ne) = omega (arith, old u (omega arith), G .low u (omega arith))
-
-      rise : (u : ℕ) → u < v + 1 → Dec (u ≡ v) → entry (set begins (v + 1) r) u ≤ entry (set begins (v + 1) r) (u + 1)
-      rise u l (yes q) =
-          omega (arith, ap (λ (x : ℕ). entry (set begins (v + 1) r) (x + 1)) q, now-here, ap (entry (set begins (v + 1) r)) q, old v (omega arith), G .here, K .more)
-      rise u l (no ne) = omega (arith, old u (omega arith), old (u + 1) (omega arith), G .rises u (omega arith))
 
       belows : (u : ℕ) → u ≤ v + 1 → Dec (u ≡ v + 1) → entry (set begins (v + 1) r) u ≤ r
       belows u l (yes q) = omega (arith, ap (entry (set begins (v + 1) r)) q, now-here)
