@@ -3,7 +3,7 @@
 use uldhvamm::{Lengths, Tables};
 use uldhvamm_bench::compare::Call;
 use uldhvamm_bench::sheets::{
-    among_some, bad_reading, chain, filled_sheet, gated_row, grid, random_sheet,
+    among_some, bad_reading, chain, filled_sheet, gated_row, grid, heard_often, random_sheet,
 };
 use uldhvamm_bench::sheets::{Chain, Order, Sheet};
 
@@ -49,7 +49,7 @@ fn plan_case(name: &str, sheet: Sheet) -> Case {
     }
 }
 
-/// Random sheets, large and small, with few and with many equal prices.
+/// Random sheets, large and small, with few and with many equal prices, with legs among some of the sites, and with many landings.
 fn random_cases() -> Vec<Case> {
     vec![
         plan_case("random", random_sheet(1, 1024, 10, 8192, 1_000_000)),
@@ -58,6 +58,9 @@ fn random_cases() -> Vec<Case> {
         plan_case("random, few legs", random_sheet(4, 1024, 10, 2048, 1000)),
         plan_case("random, among 100 sites", among_some(13, 100, 8192)),
         plan_case("random, among 30 sites", among_some(14, 30, 8192)),
+        plan_case("random, all heard everywhere", heard_often(15, 1)),
+        plan_case("random, heard at every second", heard_often(16, 2)),
+        plan_case("random, heard at every third", heard_often(17, 3)),
         plan_case("random", random_sheet(5, 200, 8, 1600, 1000)),
         plan_case("random", random_sheet(6, 64, 7, 512, 1000)),
         plan_case("random", random_sheet(7, 16, 4, 64, 1000)),

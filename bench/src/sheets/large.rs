@@ -1,5 +1,5 @@
-//! Large sheets of set shapes: random, legs among some of the sites, a grid, a chain, a row behind a gate, a sheet at every limit, one with few
-//! senders; and a plan file that is long to read.
+//! Large sheets of set shapes: random, legs among some of the sites, stations heard at many sites, a grid, a chain, a row behind a gate, a sheet at
+//! every limit, one with few senders; and a plan file that is long to read.
 
 use super::{PlanFile, Random, Record, Sheet};
 
@@ -55,6 +55,18 @@ pub fn among_some(seed: u64, joined: usize, legs: usize) -> Sheet {
     (0..10).fold(sheet, |sheet, station| {
         sheet.landing(station, site(random.below(joined)))
     })
+}
+
+/// 1,024 sites, 10 stations and 8,192 random legs with prices to 1,000,000. Station k is heard at each site v for which v + k is a multiple of `step`, so
+/// that the same stations are heard at every `step`-th site.
+pub fn heard_often(seed: u64, step: u16) -> Sheet {
+    let mut sheet = random_sheet(seed, 1024, 10, 8192, 1_000_000);
+    sheet.records.truncate(8192);
+    for site in 0..1024 {
+        let heard = (0..10).filter(|&station| (site + station) % step == 0);
+        sheet = heard.fold(sheet, |sheet, station| sheet.landing(station as u8, site));
+    }
+    sheet
 }
 
 /// A square of `side` times `side` sites with a leg to each neighbour in 8 directions, prices from 1 to 100.

@@ -76,7 +76,7 @@ fn close_four(
         return;
     }
     lower_by_turns(starts, weights, index, places, n, lanes);
-    settle(starts, ends, weights, index, places[n] as usize, lanes);
+    settle(starts, ends, weights, index, places, n, lanes);
     give_columns(lanes, n, size, sets, cells);
 }
 

@@ -43,7 +43,7 @@ use Rattle.graph.specs.laws.LayoutTotal.{layout-subtree, step-passes, ar
 use Rattle.graph.specs.laws.SameCells.{same-layout as layouts-agree, same-root as roots-agree}
 use Rattle.graph.specs.laws.Settling.{splits-start, started-lower, arcs-close, closed-kept}
 use Rattle.graph.specs.laws.Finite.{cell-finite, full-finite, full-none}
-use Rattle.graph.specs.laws.FiniteParts.{all-parts-finite}
+use Rattle.graph.specs.laws.PartCells.{parts-below}
 use Rattle.graph.specs.laws.Roots.{root-facts, cheapest-first, no-root, root-lower}
 use Rattle.graph.specs.laws.UniquePaths.{subtree-one-path, one-path-subtree, subtree-distinct, subtree-no-loop, touched-held}
 
@@ -249,13 +249,14 @@ pub tries-start-set : (G : Graph) (c : ℕ → ℕ → ℕ) (top w : ℕ)
     → ((v : ℕ) → v < G .nodes → c v w ≤ top) → ((v y : ℕ) → v < G .nodes → y ≢ 0 → Part y w → G .charge v ≤ c v y) → StartedSet G c w
 tries-start-set = splits-start
 
--- Where the proper parts of a set are closed, and a node has a split of it into two parts with finite cells, all proper parts that are not
--- empty have finite cells there. So one split tells whether any needs to be tried.
-pub parts-finite-alike : (G : Graph) → Sound G → (c : ℕ → ℕ → ℕ) (top : ℕ) → Room G top → Supported G c top
+-- Where the proper parts of a set are closed, and a node has a split of it into two parts with finite cells, every proper part that is not
+-- empty has a finite cell there, which is at most what the split gives. So one split tells whether any needs to be tried; and where a part
+-- costs nothing, the other parts of the set cost as much as the set.
+pub parts-below-split : (G : Graph) → Sound G → (c : ℕ → ℕ → ℕ) (top : ℕ) → Room G top → Supported G c top
     → (w : ℕ) → w < 2 ^ G .terminals → ((y : ℕ) → Part y w → y ≢ 0 → y ≢ w → ClosedSet G c y)
     → (v y : ℕ) → v < G .nodes → Part y w → y ≢ 0 → y ≢ w → c v y < top → c v (w - y) < top
-    → (z : ℕ) → Part z w → z ≢ 0 → z ≢ w → c v z < top
-parts-finite-alike = all-parts-finite
+    → (z : ℕ) → Part z w → z ≢ 0 → z ≢ w → (c v z < top) × (c v z + G .charge v ≤ c v y + c v (w - y))
+parts-below-split = parts-below
 
 -- a started set stays started while its cells fall and those of its proper parts stay
 pub lowering-keeps-started : (G : Graph) (c d : ℕ → ℕ → ℕ) (w : ℕ) → ((v y : ℕ) → v < G .nodes → Part y w → y ≢ w → d v y ≡ c v y)

@@ -29,7 +29,7 @@ pub mod Settling
 pub mod Offers
 pub mod CostTable
 -- the finite cells of the parts of a set
-pub mod FiniteParts
+pub mod PartCells
 -- the layout
 pub mod LayoutRule
 pub mod LayoutTotal

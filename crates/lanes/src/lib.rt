@@ -1,10 +1,12 @@
 // Four cells of one site at a time, and four columns of the table, those of four sets, side by side: a table with four cells for each site.
 use limits::Cost;
+use limits::SignedCost;
 ghost use mathlib.Core.Path.{_≡_};
 ghost use Prim.Native.Nat.{ℕ, _+_, _*_, _<_, _≤_, min};
+ghost use lib.Dec.{ltb};
 ghost use lib.ListN.{length};
 ghost use Rattle.limits.specs.Limits.{maxSubsets};
-ghost use Rattle.lanes.specs.laws.Four.{nth, nthNumber, fourAt, fourOf, lessFour, fourFrom};
+ghost use Rattle.lanes.specs.laws.Four.{nth, nthNumber, signedLimit, FourSmall, fourAt, fourOf, lessFour, fourFrom};
 ghost use Rattle.lanes.specs.laws.WriteFour.{writeFour};
 ghost use Rattle.lanes.specs.laws.Columns.{ColumnsTaken, ColumnsGiven};
 
@@ -32,6 +34,26 @@ const LANES: FourNumbers = FourNumbers {
     d: 3,
 };
 
+// Whether a cost is less than another one. Both are below half of what a cell can hold, and are compared as signed numbers: a machine compares
+// four of these at once in fewer steps.
+pub fn less(x: Cost, y: Cost) -> bool
+    requires { ⌜ (x < signedLimit) × (y < signedLimit) ⌝ }
+    ensures { λ r. ⌜ r ≡ ltb x y ⌝ }
+{
+    (x as SignedCost) < (y as SignedCost)
+}
+
+// The lesser of two such costs.
+fn lesser_signed(x: Cost, y: Cost) -> Cost
+    requires { ⌜ (x < signedLimit) × (y < signedLimit) ⌝ }
+    ensures { λ r. ⌜ r ≡ min x y ⌝ }
+{
+    if less(x, y) {
+        return x;
+    }
+    y
+}
+
 // The lesser of two costs.
 pub fn lesser(x: Cost, y: Cost) -> Cost
     ensures { λ r. ⌜ r ≡ min x y ⌝ }
@@ -54,13 +76,14 @@ fn lesser_number(x: usize, y: usize) -> usize
 
 // The lesser ones of four and four costs.
 pub fn lesser_of(x: Four, y: Four) -> Four
+    requires { ⌜ FourSmall x × FourSmall y ⌝ }
     ensures { λ r. ⌜ r ≡ lessFour x y ⌝ }
 {
     Four {
-        a: lesser(x.a, y.a),
-        b: lesser(x.b, y.b),
-        c: lesser(x.c, y.c),
-        d: lesser(x.d, y.d),
+        a: lesser_signed(x.a, y.a),
+        b: lesser_signed(x.b, y.b),
+        c: lesser_signed(x.c, y.c),
+        d: lesser_signed(x.d, y.d),
     }
 }
 
@@ -132,14 +155,15 @@ pub fn take_columns(cells: &[Cost], n: usize, size: usize, sets: FourNumbers, la
     }
 }
 
-// They become the cells of the four sets; where two of these are one, the later column counts.
+// They become the cells of the four sets, from the last site on: its cells were taken last, and are the nearest in a cache. Where two of the sets are one,
+// the later column counts.
 pub fn give_columns(lanes: &[Cost], n: usize, size: usize, sets: FourNumbers, cells: &mut [Cost])
     requires { ⌜ (n * size ≤ length (now cells)) × (n * 4 ≤ length (now lanes)) × ((j : ℕ) → j < 4 → nthNumber sets j < size) ⌝ }
     ensures { λ _. ⌜ ColumnsGiven size (nthNumber sets) (now (lanes .entry)) n (now (cells .entry)) (now (cells .exit)) ⌝ }
 {
-    let mut v = 0;
-    while v < n {
+    let mut v = n;
+    while 0 < v {
+        v -= 1;
         write_four(cells, size, v, sets, lanes_of(lanes, v));
-        v += 1;
     }
 }

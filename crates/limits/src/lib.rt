@@ -27,6 +27,9 @@ pub const MAX_WEIGHT: u32 = 1_000_000;
 // A cell of the cost table, and what is compared with one: the name of its width.
 pub type Cost = u32;
 
+// A signed number of this width: costs below half of what a cell can hold are compared as such.
+pub type SignedCost = i32;
+
 // The cell of a site and a set that no directed subtree serves: "none".
 pub const NO_COST: Cost = 4_294_967_295;
 

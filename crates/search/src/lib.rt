@@ -62,7 +62,7 @@ fn fill(
     let mut first: usize = 1;
     while first < sets.len() {
         let last = end_of_size(sets, first);
-        split_rows(sets, n, size, first, last, cells, lanes);
+        split_rows(sets, landings, n, size, first, last, cells, lanes);
         close_sets(
             sets,
             starts,

@@ -56,12 +56,29 @@ fn take_rows(cells: &[Cost], size: usize, rows: FourNumbers, by_set: &mut [Cost]
     }
 }
 
+// The stations that are heard at four sites.
+fn heard_at(landings: &[u16], sites: FourNumbers) -> FourNumbers
+    requires { ⌜ (sites .a < length (now landings)) × (sites .b < length (now landings)) × (sites .c < length (now landings)) × (sites .d < length (now landings)) ⌝ }
+{
+    let a = sites.a;
+    let b = sites.b;
+    let c = sites.c;
+    let d = sites.d;
+    FourNumbers {
+        a: landings[a] as usize,
+        b: landings[b] as usize,
+        c: landings[c] as usize,
+        d: landings[d] as usize,
+    }
+}
+
 // Each set at the positions from `first` up to `last` of the order, which have one size: its cells at four sites become these least ones. There are
 // four entries for each set in `by_set`.
 fn split_four(
     sets: &[u16],
     size: usize,
     rows: FourNumbers,
+    heard: FourNumbers,
     first: usize,
     last: usize,
     cells: &mut [Cost],
@@ -75,7 +92,7 @@ fn split_four(
     let mut position = first;
     while position < last {
         let w = sets[position] as usize;
-        write_rows(cells, size, rows, w, best_splits(by_set, w));
+        write_rows(cells, size, rows, w, best_splits(by_set, w, heard));
         position += 1;
     }
 }
@@ -84,6 +101,7 @@ fn split_four(
 // `by_set`.
 pub fn split_rows(
     sets: &[u16],
+    landings: &[u16],
     n: usize,
     size: usize,
     first: usize,
@@ -93,14 +111,15 @@ pub fn split_rows(
 )
     requires { ⌜ Ordered (entryOf (now sets)) (length (now sets)) size × OneSize (entryOf (now sets)) (length (now sets)) first last
         × (0 < first) × (n ≤ maxNodes) × (size ≤ maxSubsets) × (length (now cells) ≡ n * size) × AllLow (now cells)
-        × (size * 4 ≤ length (now «by_set»)) ⌝ }
+        × (size * 4 ≤ length (now «by_set»)) × (n ≤ length (now landings)) ⌝ }
     ensures { λ _. ⌜ SplitTo (entryOf (now (sets .entry))) first last n size n (now (cells .entry)) (now (cells .exit)) ⌝ }
 {
     let mut v = next_finite(cells, size, n, 0);
     while v < n {
         let four = four_finite(cells, size, n, v);
         let end = four.d + 1;
-        split_four(sets, size, four, first, last, cells, by_set);
+        let heard = heard_at(landings, four);
+        split_four(sets, size, four, heard, first, last, cells, by_set);
         v = next_finite(cells, size, n, end);
     }
 }

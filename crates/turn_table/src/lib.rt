@@ -13,19 +13,21 @@ ghost use Rattle.turn_table.specs.laws.Entries.{turnEntries, keyLimit};
 // A site without a turn.
 pub const NO_TURN: u64 = 18_446_744_073_709_551_615;
 
-// Where the turns of groups begin: entry v of a table of turns is 1,024 times the key of site v plus v, or NO_TURN; entry 1,024 + i
-// is the least of the eight entries from 8 i on, so that the last sixteen are each the least of 64 sites.
+// Where the turns of groups begin: entry v of a table of turns is 1,024 times the key of site v plus v, or NO_TURN. Of the further entries, each is the
+// least of eight sites, then of 64 sites, and the last four of 256 sites.
 const GROUPS: usize = 1024;
 
 const LARGE_GROUPS: usize = 1152;
 
-pub const ENTRIES: usize = 1168;
+const QUARTERS: usize = 1168;
+
+pub const ENTRIES: usize = 1172;
 
 // Turns are taken in rounds, 0, 1 and this one.
 pub const LAST_ROUND: u8 = 2;
 
 // The lesser of two turns.
-fn sooner(x: u64, y: u64) -> u64
+pub fn sooner(x: u64, y: u64) -> u64
     ensures { λ r. ⌜ r ≡ min x y ⌝ }
 {
     if x < y {
@@ -34,24 +36,28 @@ fn sooner(x: u64, y: u64) -> u64
     y
 }
 
-// The least of the eight turns from 8 i on.
-fn soonest(turns: &[u64], i: usize) -> u64
-    requires { ⌜ i * 8 + 8 ≤ length (now turns) ⌝ }
+// The least of the four turns from `from` on.
+fn soonest_of_four(turns: &[u64], from: usize) -> u64
+    requires { ⌜ (from + 4 ≤ length (now turns)) × (length (now turns) ≡ turnEntries) ⌝ }
 {
-    let from = i * 8;
-    let low = sooner(
+    sooner(
         sooner(turns[from], turns[from + 1]),
         sooner(turns[from + 2], turns[from + 3]),
-    );
-    let high = sooner(
-        sooner(turns[from + 4], turns[from + 5]),
-        sooner(turns[from + 6], turns[from + 7]),
-    );
-    sooner(low, high)
+    )
 }
 
-// Site v has a turn by a key; the least of its keys counts.
-pub fn enter(v: usize, key: u64, turns: &mut [u64])
+// The least of the eight turns from `from` on.
+fn soonest(turns: &[u64], from: usize) -> u64
+    requires { ⌜ (from + 8 ≤ length (now turns)) × (length (now turns) ≡ turnEntries) ⌝ }
+{
+    sooner(
+        soonest_of_four(turns, from),
+        soonest_of_four(turns, from + 4),
+    )
+}
+
+// Site v has a turn by a key; the least of its keys counts. The turn is given back.
+pub fn enter(v: usize, key: u64, turns: &mut [u64]) -> u64
     requires { ⌜ (length (now turns) ≡ turnEntries) × (v < maxNodes) × (key < keyLimit) ⌝ }
 {
     let turn = key * 1024 + (v as u64);
@@ -60,27 +66,42 @@ pub fn enter(v: usize, key: u64, turns: &mut [u64])
     turns[group] = sooner(turn, turns[group]);
     let large = LARGE_GROUPS + v / 64;
     turns[large] = sooner(turn, turns[large]);
+    let quarter = QUARTERS + v / 256;
+    turns[quarter] = sooner(turn, turns[quarter]);
+    turn
 }
 
-// Site v has no turn.
-pub fn leave(v: usize, turns: &mut [u64])
-    requires { ⌜ (length (now turns) ≡ turnEntries) × (v < maxNodes) ⌝ }
-{
-    turns[v] = NO_TURN;
-    let group = v / 8;
-    turns[GROUPS + group] = soonest(turns, group);
-    let large = LARGE_GROUPS - GROUPS + v / 64;
-    turns[GROUPS + large] = soonest(turns, large);
-}
-
-// The site with the soonest turn, or 1,024 where there is none.
-pub fn next_site(turns: &[u64]) -> usize
+// The soonest turn, or NO_TURN.
+pub fn first_turn(turns: &[u64]) -> u64
     requires { ⌜ length (now turns) ≡ turnEntries ⌝ }
 {
-    let turn = sooner(
-        soonest(turns, LARGE_GROUPS / 8),
-        soonest(turns, LARGE_GROUPS / 8 + 1),
-    );
+    soonest_of_four(turns, QUARTERS)
+}
+
+// Site v has no turn; the soonest of the others. The entries of the site's own groups are cleared first, so that the groups of every size can be looked at
+// at the same time.
+pub fn leave(v: usize, turns: &mut [u64]) -> u64
+    requires { ⌜ (length (now turns) ≡ turnEntries) × (v < maxNodes) ⌝ }
+{
+    let group = GROUPS + v / 8;
+    let large = LARGE_GROUPS + v / 64;
+    let quarter = QUARTERS + v / 256;
+    turns[v] = NO_TURN;
+    turns[group] = NO_TURN;
+    turns[large] = NO_TURN;
+    turns[quarter] = NO_TURN;
+    let of_eight = soonest(turns, v / 8 * 8);
+    let of_large = sooner(of_eight, soonest(turns, GROUPS + v / 64 * 8));
+    let of_quarter = sooner(of_large, soonest_of_four(turns, LARGE_GROUPS + v / 256 * 4));
+    let of_all = sooner(of_quarter, first_turn(turns));
+    turns[group] = of_eight;
+    turns[large] = of_large;
+    turns[quarter] = of_quarter;
+    of_all
+}
+
+// The site that has a turn, or 1,024 for NO_TURN.
+pub fn site_of(turn: u64) -> usize {
     if turn == NO_TURN {
         return 1024;
     }
@@ -100,10 +121,14 @@ fn finite_or(cost: Cost, other: Cost) -> Cost {
     other
 }
 
-// The sum of four costs; for one that is "none" or more, the least of them counts.
+// The sum of four costs; for one that is "none" or more, the least of them counts. Where the sum is below "none", none of them is.
 fn cost_sum(four: Four) -> u64
     ensures { λ r. ⌜ r < keyLimit ⌝ }
 {
+    let sum = ((four.a as u64) + (four.b as u64)) + ((four.c as u64) + (four.d as u64));
+    if sum < (WORKING_NONE as u64) {
+        return sum;
+    }
     let least = least_of(four);
     let low = (finite_or(four.a, least) as u64) + (finite_or(four.b, least) as u64);
     let high = (finite_or(four.c, least) as u64) + (finite_or(four.d, least) as u64);

@@ -5,15 +5,18 @@ use turn_table::ENTRIES;
 use turn_table::LAST_ROUND;
 use turn_table::NO_TURN;
 use turn_table::enter_all;
+use turn_table::first_turn;
 use turn_table::leave;
-use turn_table::next_site;
+use turn_table::site_of;
+use turn_table::sooner;
 use visits::visit;
 ghost use mathlib.Core.Path.{_≡_};
 ghost use Prim.Native.Nat.{_≤_};
 ghost use lib.ListN.{length};
 ghost use Rattle.limits.specs.Limits.{maxNodes};
 ghost use Rattle.turn_table.specs.laws.Entries.{turnEntries};
-ghost use Rattle.visits.specs.laws.ByIndex.{SomeArcs, LoweredByIndex};
+ghost use Rattle.settling.specs.laws.ByIndex.{SomeArcs};
+ghost use Rattle.visits.specs.laws.ByIndex.{LoweredByIndex};
 
 // How many turns are taken in a round at most.
 fn most_turns(round: u8, n: usize) -> usize
@@ -42,13 +45,15 @@ fn take_turns(
 {
     enter_all(round, lanes, n, turns);
     let mut left = most_turns(round, n);
+    let mut turn = first_turn(turns);
     while 0 < left {
-        let v = next_site(turns);
+        let v = site_of(turn);
         if n <= v {
             return;
         }
-        leave(v, turns);
-        visit(starts, weights, index, places, n, round, v, lanes, turns);
+        let other = leave(v, turns);
+        let new = visit(starts, weights, index, places, n, round, v, lanes, turns);
+        turn = sooner(new, other);
         left -= 1;
     }
 }

@@ -7,8 +7,8 @@ ghost use Rattle.lists.specs.Numbers.{numbers};
 ghost use Rattle.working_none.specs.laws.WorkingNone.{finished};
 ghost use Rattle.working_none.specs.laws.Low.{entry};
 
-// Above every total; two of them, added, fit in a cell.
-pub const WORKING_NONE: Cost = 2_147_483_647;
+// Above every total; two of them, added, are below half of what a cell can hold.
+pub const WORKING_NONE: Cost = 1_073_741_823;
 
 // Each "none" of the search becomes the table's.
 pub fn finish(cells: &mut [Cost])

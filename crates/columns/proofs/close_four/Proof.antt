@@ -35,18 +35,9 @@ lower-by-turns-requires c κs =
     let start = taken .before .before .before .before .before .before .before .before .before .before in
     taken-some (start .pre .0) (start .pre .1) (taken .take-columns .ensures)
 
-mul-settle : tie.Need-mul-settle
-mul-settle c = omega (arith, c .before .before .before .before .before .before .before .before .before .before .before .before .before .before .before .before .before .before .before .pre .0 .arcs .few)
-
-shared-slice-read-settle : tie.Need-shared-slice-read-settle
-shared-slice-read-settle c = omega (arith, c .before .before .before .before .before .before .before .before .before .before .before .before .before .before .before .before .before .before .before .before .pre .0 .index .places-long)
-
-cast-settle : tie.Need-cast-settle
-cast-settle c = omega (arith, c .shared-slice-known6 .given (c .before .before .before .before .before .before .before .before .before .before .before .before .before .before .before .before .before .before .before .before .args .n))
-
 settle-requires : tie.Need-settle-requires
 settle-requires c κs =
-    let lowered = c .before .before .before .before in
+    let lowered = c .before .before .before in
     let taken = lowered .before .before .before .before .before .before .before in
     let start = taken .before .before .before .before .before .before .before .before .before .before in
     turned-lanes (start .pre .0) (start .pre .1) (taken .take-columns .ensures) (lowered .lower-by-turns .ensures)
@@ -54,7 +45,7 @@ settle-requires c κs =
 give-columns-requires : tie.Need-give-columns-requires
 give-columns-requires c κs =
     let settled = c .before .before .before .before in
-    let lowered = settled .before .before .before .before .before in
+    let lowered = settled .before .before .before .before in
     let taken = lowered .before .before .before .before .before .before .before in
     let start = taken .before .before .before .before .before .before .before .before .before .before in
     let wide = settled .settle .ensures .lowered .same-length ∙ lowered .lower-by-turns .kept .1 .1 .1 .1 .1 .0 ∙ taken .take-columns .ensures .same-length ∙ start .pre .0 .wide in
@@ -69,7 +60,7 @@ same-length-4 c = search needs
 returns-2 : tie.Need-returns-2
 returns-2 c =
     let settled = c .before .before .before .before .before .before .before in
-    let lowered = settled .before .before .before .before .before in
+    let lowered = settled .before .before .before .before in
     let taken = lowered .before .before .before .before .before .before .before in
     let start = taken .before .before .before .before .before .before .before .before .before .before in
     four-closed (start .pre .0) (start .pre .1) (taken .take-columns .ensures) (lowered .lower-by-turns .ensures) (settled .settle .ensures) (c .before .before .give-columns .ensures)
@@ -84,9 +75,6 @@ close-four-spec =
     same-length-2
     returns
     lower-by-turns-requires
-    mul-settle
-    shared-slice-read-settle
-    cast-settle
     settle-requires
     give-columns-requires
     same-length-3

@@ -15,7 +15,9 @@ use Rattle.working_none.specs.laws.WorkingNone.{workingNone}
 use Rattle.working_none.specs.laws.Low.{entry, AllLow}
 use Rattle.settling.specs.laws.Arcs.{startAt, endAt, weightAt, ArcTables, ListLanes, arc-known}
 use Rattle.settling.specs.laws.Lowered.{Lowered, AllCovered, still-low}
-use Rattle.visits.specs.laws.ByIndex.{ArcsByEnd, SomeArcs, LoweredByIndex}
+use Rattle.settling.specs.laws.ByIndex.{ArcsByEnd, SomeArcs, same-arcs}
+use Rattle.settling.specs.laws.Settling.{SettleAsked}
+use Rattle.visits.specs.laws.ByIndex.{LoweredByIndex}
 
 pub record Tables (n m size : ℕ) (t : SheetTables) (byEnd places cells lanes : List ℕ) : Type 0 where
   pub arcs : ArcTables n m t
@@ -73,5 +75,9 @@ module _ {n m size : ℕ} {t : SheetTables} {byEnd places cells lanes : List ℕ
       → Lowered m (startAt t) (endAt t) (weightAt t) taken lower
   turned L = L .lowered m (endAt t) taken-arcs
 
-  pub turned-lanes : {lower : List ℕ} → LoweredByIndex n (t .starts) (t .weights) byEnd places taken lower → ListLanes t byEnd (entry places n) lower
-  turned-lanes {lower} L = listed lower (turned L .same-length) (still-low (turned L) taken-low)
+  pub turned-lanes : {lower : List ℕ} → LoweredByIndex n (t .starts) (t .weights) byEnd places taken lower → SettleAsked n t byEnd places lower
+  turned-lanes {lower} L = record {
+    listed = listed lower (turned L .same-length) (still-low (turned L) taken-low);
+    m = m;
+    by-end = same-arcs (turned L .same-length) (still-low (turned L) taken-low) taken-arcs;
+  }

@@ -129,11 +129,14 @@ module _ (G : Graph) (sound : Sound G) (c : ℕ → ℕ → ℕ) (top : ℕ) (S 
   attain-below (suc b) w l = λ v on ne small finite.
       attain-set w (λ y h. attain-below b y (omega arith)) (suc (c v w)) v (omega arith) on ne small finite
 
+  pub attain-connected : (v w : ℕ) → v < G .nodes → w ≢ 0 → w < 2 ^ G .terminals → c v w < top → (L : List ℕ) × Connected G v w (c v w) L
+  unfolding Attains Attained
+  attain-connected v w on ne small finite = attain-below (suc w) w (omega arith) v on ne small finite
+
   -- a subtree with root v that holds a landing of each terminal of w, at no more than the cell
   pub attain : (v w : ℕ) → v < G .nodes → w ≢ 0 → w < 2 ^ G .terminals → c v w < top
       → (L : List ℕ) × Subtree G v L × Covers G v L w × (total G v L ≤ c v w)
-  unfolding Attains Attained
   attain v w on ne small finite =
-      let (L, connected) = attain-below (suc w) w (omega arith) v on ne small finite in
+      let (L, connected) = attain-connected v w on ne small finite in
       let (subtree, covers, cheap) = connected-subtree G v w (c v w) L on connected in
       (kept G v L, subtree, covers, cheap)

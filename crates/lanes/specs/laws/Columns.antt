@@ -1,7 +1,8 @@
 -- Four columns of a table, those of four sets, as a table of their own with four cells for each node: taken from the table, and given back.
 -- Assumes nothing.
-use Prim.Native.Nat.{ℕ, _+_, _*_, _≤_, _<_}
+use Prim.Native.Nat.{ℕ, _+_, _-_, _*_, _≤_, _<_}
 use mathlib.Core.Path.{_≡_, refl, sym, ap, _∙_, subst}
+use mathlib.Core.Logic.{_⊎_, inl, inr}
 use mathlib.Core.List.{List}
 use native.Mathlib.Omega.{arith}
 use native.Mathlib.Decide.{ℕ-discrete}
@@ -62,37 +63,56 @@ pub record ColumnsGiven (size : ℕ) (w : ℕ → ℕ) (lanes : List ℕ) (v : �
   pub given : (u y : ℕ) → u < v → y < size → cellIn after size u y ≡ putFour w (cellIn lanes 4 u) y (cellIn before size u y)
   pub left : (u y : ℕ) → v ≤ u → y < size → cellIn after size u y ≡ cellIn before size u y
 
-module _ {size : ℕ} {w : ℕ → ℕ} {lanes before : List ℕ} where
-  pub give-none : ColumnsGiven size w lanes 0 before before
-  give-none = record { same-length = refl; given = λ u y l s. absurd (omega arith); left = λ u y l s. refl }
+-- those of the nodes from v up to n, which are given from the last one on
+pub record GivenFrom (size : ℕ) (w : ℕ → ℕ) (lanes : List ℕ) (n v : ℕ) (before after : List ℕ) : Type 0 where
+  pub within : v ≤ n
+  pub same-length : length after ≡ length before
+  pub given : (u y : ℕ) → v ≤ u → u < n → y < size → cellIn after size u y ≡ putFour w (cellIn lanes 4 u) y (cellIn before size u y)
+  pub left : (u y : ℕ) → (u < v) ⊎ (n ≤ u) → y < size → cellIn after size u y ≡ cellIn before size u y
+
+module _ {size n : ℕ} {w : ℕ → ℕ} {lanes before : List ℕ} where
+  pub give-none : GivenFrom size w lanes n n before before
+  give-none = record { within = omega arith; same-length = refl; given = λ u y a l s. absurd (omega arith); left = λ u y out s. refl }
 
   give-more : {v : ℕ} {mid : List ℕ} → ((j : ℕ) → j < 4 → w j < size) → ((j : ℕ) → j < 4 → v * size + w j < length mid)
-      → ColumnsGiven size w lanes v before mid → ColumnsGiven size w lanes (v + 1) before (writeFour size v w (cellIn lanes 4 v) mid)
+      → GivenFrom size w lanes n (v + 1) before mid → GivenFrom size w lanes n v before (writeFour size v w (cellIn lanes 4 v) mid)
   give-more {v} {mid} small on G = record {
+    within = omega (arith, G .within);
     same-length = four-length (λ j. v * size + w j) (cellIn lanes 4 v) mid ∙ G .same-length;
-    given = λ u y l s. at u y l s (ℕ-discrete u v);
-    left = λ u y l s. four-other size v w (cellIn lanes 4 v) mid small on u y s (λ e. omega arith) ∙ G .left u y (omega arith) s;
+    given = λ u y a l s. at u y a l s (ℕ-discrete u v);
+    left = λ u y out s. outside u y s out;
   }
     where
-      at : (u y : ℕ) → u < v + 1 → y < size → Dec (u ≡ v)
+      outside : (u y : ℕ) → y < size → (u < v) ⊎ (n ≤ u) → cellIn (writeFour size v w (cellIn lanes 4 v) mid) size u y ≡ cellIn before size u y
+      outside u y s (inl l) = four-other size v w (cellIn lanes 4 v) mid small on u y s (λ e. omega arith) ∙ G .left u y (inl (omega arith)) s
+      outside u y s (inr l) =
+          four-other size v w (cellIn lanes 4 v) mid small on u y s (λ e. omega (arith, G .within)) ∙ G .left u y (inr l) s
+
+      at : (u y : ℕ) → v ≤ u → u < n → y < size → Dec (u ≡ v)
           → cellIn (writeFour size v w (cellIn lanes 4 v) mid) size u y ≡ putFour w (cellIn lanes 4 u) y (cellIn before size u y)
-      at u y l s (yes e) =
+      at u y a l s (yes e) =
           ap (λ (z : ℕ). cellIn (writeFour size v w (cellIn lanes 4 v) mid) size z y) e
           ∙ four-node size v w (cellIn lanes 4 v) mid small on y s
-          ∙ ap (putFour w (cellIn lanes 4 v) y) (G .left v y (omega arith) s)
+          ∙ ap (putFour w (cellIn lanes 4 v) y) (G .left v y (inl (omega arith)) s)
           ∙ ap (λ (z : ℕ). putFour w (cellIn lanes 4 z) y (cellIn before size z y)) (sym e)
-      at u y l s (no ne) = four-other size v w (cellIn lanes 4 v) mid small on u y s ne ∙ G .given u y (omega arith) s
+      at u y a l s (no ne) = four-other size v w (cellIn lanes 4 v) mid small on u y s ne ∙ G .given u y (omega arith) l s
 
-  pub give-next : {n v : ℕ} {f : Four} {mid after : List ℕ} → ((j : ℕ) → j < 4 → w j < size) → v < n → n * size ≤ length before
-      → ColumnsGiven size w lanes v before mid → f ≡ fourOf lanes v → after ≡ writeFour size v w (nth f) mid
-      → ColumnsGiven size w lanes (v + 1) before after
-  give-next {n} {v} {f} {mid} small l long G is new =
-      subst (ColumnsGiven size w lanes (v + 1) before) (sym (new ∙ ap (λ (g : Four). writeFour size v w (nth g) mid) is))
-      (give-more small (λ j s. omega (arith, small j s, row-fits v n size l, G .same-length)) G)
+  pub give-next : {v : ℕ} {f : Four} {mid after : List ℕ} → ((j : ℕ) → j < 4 → w j < size) → 0 < v → n * size ≤ length before
+      → GivenFrom size w lanes n v before mid → f ≡ fourOf lanes (v - 1) → after ≡ writeFour size (v - 1) w (nth f) mid
+      → GivenFrom size w lanes n (v - 1) before after
+  give-next {v} {f} {mid} small some long G is new =
+      let back : v ≡ v - 1 + 1 = omega arith in
+      subst (GivenFrom size w lanes n (v - 1) before) (sym (new ∙ ap (λ (g : Four). writeFour size (v - 1) w (nth g) mid) is))
+      (give-more small (λ j s. omega (arith, small j s, row-fits (v - 1) n size (omega (arith, G .within)), G .same-length))
+      (subst (λ (x : ℕ). GivenFrom size w lanes n x before mid) back G))
+
+  pub given-all : {v : ℕ} {after : List ℕ} → v ≡ 0 → GivenFrom size w lanes n v before after → ColumnsGiven size w lanes n before after
+  given-all none G = record {
+    same-length = G .same-length;
+    given = λ u y l s. G .given u y (omega arith) l s;
+    left = λ u y l s. G .left u y (inr l) s;
+  }
 
 -- all nodes
 pub taken-all : {x : ℕ → ℕ → ℕ} {v n : ℕ} {before after : List ℕ} → v ≡ n → Taken x v before after → Taken x n before after
 taken-all {x} {v} {n} {before} {after} e T = subst (λ (u : ℕ). Taken x u before after) e T
-
-pub given-all : {size v n : ℕ} {w : ℕ → ℕ} {lanes before after : List ℕ} → v ≡ n → ColumnsGiven size w lanes v before after → ColumnsGiven size w lanes n before after
-given-all {size} {v} {n} {w} {lanes} {before} {after} e G = subst (λ (x : ℕ). ColumnsGiven size w lanes x before after) e G

@@ -1,9 +1,16 @@
 -- Four values by their number: the cells of one node in four columns, and four sets or nodes.
 -- Assumes nothing.
-use Prim.Native.Nat.{ℕ, zero, suc, _+_, _-_, _≤_, _<_, min}
-use mathlib.Core.Path.{_≡_, refl, ap}
+use Prim.Native.Nat.{ℕ, zero, suc, _+_, _-_, _^_, _≤_, _<_, min}
+use mathlib.Core.Path.{_≡_, refl, sym, ap, ap₂, subst}
+use mathlib.Core.Bool.{Bool}
 use mathlib.Core.List.{List}
 use native.Mathlib.Omega.{arith}
+use borrow.Author.Tests.{lt-ltb}
+use lib.Dec.{ltb}
+use lib.IntN.{pos, negsuc}
+use lib.Signed.{ltZ}
+use mir.Syntax.{w32}
+use mir.Val.{bits, toZ, sel}
 use Rattle.cost_table.specs.Cells.{cellIn}
 use Rattle.working_none.specs.laws.WorkingNone.{workingNone}
 use Rattle.lanes.specs.declared.Four.{Four}
@@ -37,6 +44,30 @@ lessFour x y = record { a = min (x .a) (y .a); b = min (x .b) (y .b); c = min (x
 -- none of four costs is above "none"
 abbrev pub FourLow : Four → Type 0
 FourLow f = (f .a ≤ workingNone) × (f .b ≤ workingNone) × (f .c ≤ workingNone) × (f .d ≤ workingNone)
+
+-- half of what a cell can hold
+abbrev pub signedLimit : ℕ
+signedLimit = 2_147_483_648
+
+-- costs below it are less as signed numbers where they are less
+pub signed-less : (x y : ℕ) → x < signedLimit → y < signedLimit → ltZ (toZ w32 x) (toZ w32 y) ≡ ltb x y
+signed-less x y small-x small-y = ap₂ ltZ (positive x small-x) (positive y small-y)
+  where
+    positive : (n : ℕ) → n < signedLimit → toZ w32 n ≡ pos n
+    positive n small = ap (λ (b : Bool). sel b (pos n) (negsuc (2 ^ bits w32 - suc n))) (lt-ltb n signedLimit small)
+
+-- four costs below it
+abbrev pub FourSmall : Four → Type 0
+FourSmall f = (f .a < signedLimit) × (f .b < signedLimit) × (f .c < signedLimit) × (f .d < signedLimit)
+
+-- none of which is above "none"
+pub low-small : {f : Four} → FourLow f → FourSmall f
+low-small (a, b, c, d) = (omega arith, omega arith, omega arith, omega arith)
+
+-- the lesser ones of four and four costs are, where the second ones are
+pub less-small : (x y : Four) {less : Four} → FourSmall y → less ≡ lessFour x y → FourSmall less
+less-small x y (a, b, c, d) e =
+    subst FourSmall (sym e) (omega arith, omega arith, omega arith, omega arith)
 
 -- four numbers from `first` on, below `end`: past the last one, that one again
 abbrev pub fourFrom : (first end : ℕ) → FourNumbers

@@ -97,7 +97,7 @@ loop-again c =
     let end = ranged .end-of-size .ensures in
     let l = turn .loop .inv in
     let next = fill-next (p .0) (sized .sets-of .ensures) (p .5) (end .range) (l .3) (l .4) (splitted .split-rows .ensures) (closed .close-sets .ensures) in
-    let lent = splitted .split-rows .kept .1 .1 .1 .1 .1 .1 .0 in
+    let lent = splitted .split-rows .kept .1 .1 .1 .1 .1 .1 .1 .0 in
     let after = closed .close-sets .last .1 .1 .1 .1 .1 .1 .1 .1 .1 .1 .1 .1 .0 in
     let given = closed .close-sets .kept .1 .1 .1 .1 .1 .1 .1 .1 .1 .1 .1 .1 .0 in
     (omega (arith, end .rising), end .range .bound, relent-length _ _ after given (lent ∙ l .2) (p .3), next .0, next .1)

@@ -1,22 +1,22 @@
 -- The table while it is filled, by the positions of the order: which sets are closed, which are started, and that every cell is supported. What
 -- the splits of one size do to it, what the closing of that size does, and what it is in the end.
 -- Assumes nothing.
-use Prim.Native.Nat.{ℕ, _-_, _^_, _≤_, _<_}
+use Prim.Native.Nat.{ℕ, _+_, _-_, _^_, _≤_, _<_}
 use mathlib.Core.Path.{_≡_, sym, ap, _∙_, subst}
 use mathlib.Core.Logic.{_≢_, _⊎_, inl, inr}
 use native.Mathlib.Omega.{arith}
 use native.Mathlib.Decide.{decLt}
 use lib.Pow.{pow-lt, pow-pos}
 use Rattle.subset.specs.Sets.{single, Part}
-use Rattle.subset.specs.laws.Parts.{part-le, difference-part, rest-disjoint, part-and-rest}
+use Rattle.subset.specs.laws.Parts.{part-le, difference-part, rest-disjoint, part-and-rest, rest-some, rest-proper}
 use Rattle.graph.specs.Graph.{Graph, Sound, Landing}
 use Rattle.graph.specs.LeastTotals.{IsCostTable, Room}
 use Rattle.graph.specs.ClosedSupported.{Support, by-arc, by-split, Supported, Capped, StartedSet, ClosedSet}
-use Rattle.graph.specs.Theorems.{closed-and-supported, tries-start-set, parts-finite-alike, lowering-keeps-started, pass-closes-set, others-keep-closed}
+use Rattle.graph.specs.Theorems.{closed-and-supported, tries-start-set, parts-below-split, lowering-keeps-started, pass-closes-set, others-keep-closed}
 use Rattle.graph.specs.laws.Lowering.{support-lower}
 use Rattle.order_ranges.specs.laws.Ranges.{Ordered, OneSize, Outside, Inside, inside-or-out, part-outside, part-before, earlier-outside}
 use Rattle.settling.specs.laws.ClosedOver.{ArcFrom, ClosedOver}
-use Rattle.set_splits.specs.laws.BestSplit.{BestSplit, SplitAt, PartsFinite}
+use Rattle.set_splits.specs.laws.BestSplit.{BestSplit, SplitAt, SettledParts}
 
 -- the sets at positions below p are closed, and those from p up to q are started
 pub record Filling (G : Graph) (top : ℕ) (at : ℕ → ℕ) (p q : ℕ) (c : ℕ → ℕ → ℕ) : Type 0 where
@@ -40,6 +40,9 @@ pub record ClosedSets (G : Graph) (at : ℕ → ℕ) (first last : ℕ) (c d : �
   pub each : (i : ℕ) → first ≤ i → i < last → ClosedOver (G .nodes) (G .arcs) (G .start) (G .end) (G .weight) (λ v. c v (at i)) (λ v. d v (at i))
 
 -- ---- what it is afterwards
+
+below-sum : (a b : ℕ) {s : ℕ} → a + b ≤ s → a ≤ s
+below-sum a b l = omega arith
 
 module _ (G : Graph) (sound : Sound G) (free : (v : ℕ) → G .charge v ≡ 0) (top : ℕ) (at : ℕ → ℕ) (m : ℕ) (O : Ordered at m (2 ^ G .terminals))
     (first last : ℕ) (R : OneSize at m first last) (c d : ℕ → ℕ → ℕ) where
@@ -125,11 +128,16 @@ module _ (G : Graph) (sound : Sound G) (free : (v : ℕ) → G .charge v ≡ 0) 
               by-split y (w - y) (h .some-terminal) (λ e. h .not-all (omega arith)) (rest-disjoint w y (h .within)) sum
               (omega (arith, h .makes)) (omega (arith, h .makes)) (omega (arith, h .makes, free v))
 
-      -- all proper parts have finite cells where those of one split have
-      all-finite : (v i y : ℕ) → v < G .nodes → first ≤ i → i < last → at i < 2 ^ G .terminals → Part y (at i) → y ≢ 0 → y ≢ at i
-          → c v y < top → c v (at i - y) < top → PartsFinite top (c v) (at i)
-      all-finite v i y on f g small p ny ne fy fz =
-          record { each = parts-finite-alike G sound c top room (F .supported) (at i) small closed-part v y on p ny ne fy fz }
+      -- what is known of all proper parts where those of one split have finite cells
+      settled : (v i y : ℕ) → v < G .nodes → first ≤ i → i < last → at i < 2 ^ G .terminals → Part y (at i) → y ≢ 0 → y ≢ at i
+          → c v y < top → c v (at i - y) < top → SettledParts top (c v) (at i)
+      settled v i y on f g small p ny ne fy fz = record {
+        finite = finite;
+        cheap = λ x z px nx ex pz nz ez.
+            let rest = finite (at i - x) (difference-part (at i) x px) (rest-some (at i) x px ex) (rest-proper (at i) x px nx) in
+            let (_, cheap) = parts-below-split G sound c top room (F .supported) (at i) small closed-part v x on px nx ex (finite x px nx ex) rest z pz nz ez in
+            below-sum (c v z) (G .charge v) cheap;
+      }
         where
           closed-part : (z : ℕ) → Part z (at i) → z ≢ 0 → z ≢ at i → ClosedSet G c z
           closed-part z p nz ne =
@@ -137,19 +145,20 @@ module _ (G : Graph) (sound : Sound G) (free : (v : ℕ) → G .charge v ≡ 0) 
               let (j, before, e) = part-before at m (2 ^ G .terminals) O first last R i z f g p ne in
               subst (ClosedSet G c) e (F .closed j before (λ q. nz (sym e ∙ q)) (omega arith))
 
+          finite : (z : ℕ) → Part z (at i) → z ≢ 0 → z ≢ at i → c v z < top
+          finite z pz nz ez = parts-below-split G sound c top room (F .supported) (at i) small closed-part v y on p ny ne fy fz z pz nz ez .0
+
       begins : (i : ℕ) → first ≤ i → i < last → at i < 2 ^ G .terminals → StartedSet G d (at i)
       begins i f g small =
           tries-start-set G d top (at i)
           (λ v j on l e t. omega (arith, low v i on f g small, ap (c v) e, F .landed v j on l t))
           (λ v y on p ny less fy fz.
           let w : ℕ = at i in
-          let le = part-le y w p in
-          let q : Part (w - y) w = difference-part w y p in
-          let back : w - (w - y) ≡ y = omega arith in
-          let sy : d v y ≡ c v y = part-same F (S .others) low i f g small v y on p (λ e. omega arith) in
-          let sz : d v (w - y) ≡ c v (w - y) = part-same F (S .others) low i f g small v (w - y) on q (λ e. ny (omega arith)) in
-          let finite = all-finite v i y on f g small p ny (λ e. omega arith) (omega arith) (omega arith) in
-          omega (arith, S .each v i on f g .least finite (w - y) q (omega arith) (omega arith), ap (c v) back, free v))
+          let ne : y ≢ w = λ e. omega arith in
+          let sy : d v y ≡ c v y = part-same F (S .others) low i f g small v y on p ne in
+          let sz : d v (w - y) ≡ c v (w - y) = part-same F (S .others) low i f g small v (w - y) on (difference-part w y p) (rest-proper w y p ny) in
+          let known = settled v i y on f g small p ny ne (omega arith) (omega arith) in
+          omega (arith, S .each v i on f g .least known y p ny ne, free v))
           (λ v on. still-capped F (S .others) low v (at i) on small)
           (λ v y on ny p. omega (arith, free v))
 

@@ -42,6 +42,8 @@ module _ {n k m : ℕ} {t : SheetTables} (S : Searchable n k m t) {byEnd places 
       by-end-long = omega (arith, S .few-arcs);
       places-long = long';
       place-le = λ v l. omega (arith, K .groups .low v l, W .index .place-le v l);
+      first = K .groups .zero;
+      last = λ v l. omega (arith, K .groups .below v l, K .groups .here);
       group = kept-arc;
     }
 

@@ -77,6 +77,8 @@ module _ {n k m : ℕ} {t : SheetTables} (S : Searchable n k m t) where
     by-end-long = I .by-end-long;
     places-long = I .places-long;
     place-le = I .place-le;
+    first = I .first;
+    last = I .last;
     group = λ v i on from to. let (arc, ends) = I .group v i on from to in (arc, sym (end-in n k m t _ arc) ∙ ends);
   }
 
@@ -185,8 +187,8 @@ module _ {n k m : ℕ} {t : SheetTables} (S : Searchable n k m t) where
       pub split-asked : (cells : List ℕ) → length cells ≡ n * size → 0 < first → Filling G workingNone at first first (cellIn cells size)
           → {lanes : ℕ} → 2 ^ k * 4 ≤ lanes
           → Ordered at count size × OneSize at count first last × (0 < first) × (n ≤ maxNodes) × (size ≤ maxSubsets) × (length cells ≡ n * size)
-          × AllLow cells × (size * 4 ≤ lanes)
-      split-asked cells whole pos F wide = (sets-in O, R, pos, S .few-nodes, size-few, whole, fill-low cells whole F, omega arith)
+          × AllLow cells × (size * 4 ≤ lanes) × (n ≤ length (t .landings))
+      split-asked cells whole pos F wide = (sets-in O, R, pos, S .few-nodes, size-few, whole, fill-low cells whole F, omega arith, S .long .landings)
 
       -- after the splits
       pub close-asked : (before cells lanes : List ℕ) {byEnd places : List ℕ} → Indexed n m (G .end) byEnd places

@@ -11,15 +11,17 @@ use lib.ListN.{length}
 use Rattle.limits.specs.Limits.{maxSubsets}
 use Rattle.cost_table.specs.Cells.{cellIn}
 use Rattle.lanes.specs.declared.Four.{Four}
-use Rattle.lanes.specs.laws.Four.{nth, fourOf, FourLow, below-four}
+use Rattle.lanes.specs.laws.Four.{nth, fourOf, FourLow, FourSmall, below-four}
 use Rattle.working_none.specs.laws.WorkingNone.{workingNone}
+use Rattle.working_none.specs.laws.Low.{entry}
 
 -- four costs and four costs, added
 abbrev pub sumFour : (x y : Four) → Four
 sumFour x y = record { a = x .a + y .a; b = x .b + y .b; c = x .c + y .c; d = x .d + y .d }
 
-pub sum-nth : (x y : Four) (j : ℕ) → j < 4 → nth (sumFour x y) j ≡ nth x j + nth y j
-sum-nth x y = below-four (λ j. nth (sumFour x y) j ≡ nth x j + nth y j) refl refl refl refl
+-- the sums of costs that are not above "none" are small
+pub sum-small : {x y sum : Four} → FourLow x → FourLow y → sum ≡ sumFour x y → FourSmall sum
+sum-small (a, b, c, d) (a', b', c', d') is = subst FourSmall (sym is) (omega arith, omega arith, omega arith, omega arith)
 
 -- the costs of the set w at four nodes, where f j has those of node j
 abbrev pub rowsAt : (f : ℕ → ℕ → ℕ) → (w : ℕ) → Four
@@ -62,11 +64,24 @@ none-finite x y fails = below-four (λ j. nth x j < workingNone → nth y j < wo
 abbrev pub setCosts : List ℕ → (j w : ℕ) → ℕ
 setCosts list j w = cellIn list 4 w j
 
+-- the four costs from an entry on
+abbrev pub costsFrom : List ℕ → ℕ → Four
+costsFrom list at = record { a = entry list at; b = entry list (at + 1); c = entry list (at + 2); d = entry list (at + 3) }
+
+-- those of the set w are from entry 4 w on
+pub from-set : (list : List ℕ) {at : ℕ} (w : ℕ) → at ≡ w * 4 → costsFrom list at ≡ rowsAt (setCosts list) w
+from-set list {at} w is =
+    let first : at ≡ w * 4 + 0 = omega arith in
+    λ i. record { a = entry list (first i); b = entry list (is i + 1); c = entry list (is i + 2); d = entry list (is i + 3) }
+
 -- the list has the costs of w and of its parts, none of which is above "none"
 pub record FourCosts (list : List ℕ) (w : ℕ) : Type 0 where
   pub few : w < maxSubsets
   pub fits : w * 4 + 4 ≤ length list
   pub low : (j y : ℕ) → j < 4 → y ≤ w → setCosts list j y ≤ workingNone
+
+pub whole-costs : {list : List ℕ} {v w : ℕ} → FourCosts list w → v ≡ w → FourCosts list v
+whole-costs {list} C e = subst (FourCosts list) (sym e) C
 
 -- what is asked where costs are added
 pub costs-low : {list : List ℕ} {w y : ℕ} {f : Four} → FourCosts list w → y ≤ w → f ≡ fourOf list y → FourLow f

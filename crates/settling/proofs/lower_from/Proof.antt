@@ -6,7 +6,7 @@ use native.Mathlib.Omega.{arith}
 use borrow.Author.Needs.{needs}
 use Rattle.lent_tables.specs.SheetTables.{arcsAlone}
 use Rattle.settling.specs.laws.Arcs.{startOf, endOf, weightOf}
-use Rattle.settling.specs.laws.LowerFour.{along-asked}
+use Rattle.settling.specs.laws.LowerFour.{along-asked, along-small}
 use Rattle.settling.specs.laws.Lowered.{PassedTo, along-arc, passed-none, passed-next, passed-all, still-lanes}
 use Rattle.settling.proofs.lower_from.Statement.{statement}
 use Rattle.settling.proofs.lower_from.Tie as tie
@@ -72,7 +72,9 @@ lower-requires c κs =
     let tested = c .before .before .before .before .before .before .before .before in
     let turn = tested .before in
     let start = turn .before .before .before .before .before .before in
-    still-lanes (turn .loop .inv .1 .lowered) (start .pre) .known (turn .loop .i) (tested .loop-test .taken) .start-fits
+    let lanes = still-lanes (turn .loop .inv .1 .lowered) (start .pre) in
+    let (low, light) = along-asked lanes (tested .loop-test .taken) (c .before .before .before .before .lanes-of .ensures) in
+    (lanes .known (turn .loop .i) (tested .loop-test .taken) .start-fits, lanes .low, along-small low light (c .before .before .along .ensures))
 
 add-i : tie.Need-add-i Inv-loop μ-loop
 add-i c = search needs

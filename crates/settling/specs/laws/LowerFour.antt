@@ -13,7 +13,7 @@ use Rattle.limits.specs.Limits.{maxWeight}
 use Rattle.lent_tables.specs.SheetTables.{SheetTables}
 use Rattle.cost_table.specs.Cells.{cellIn}
 use Rattle.lanes.specs.declared.Four.{Four}
-use Rattle.lanes.specs.laws.Four.{nth, fourOf, lessFour, less-nth, FourLow, below-four}
+use Rattle.lanes.specs.laws.Four.{nth, fourOf, lessFour, less-nth, FourLow, FourSmall, below-four}
 use Rattle.lanes.specs.laws.WriteFour.{writeFour, putFour, four-length, four-node, four-other}
 use Rattle.working_none.specs.laws.Low.{AllLow}
 use Rattle.settling.specs.laws.Arcs.{endOf, weightOf, ListLanes}
@@ -62,6 +62,10 @@ pub four-low : {here : Four} (lanes : List ℕ) (v : ℕ) → v * 4 + 4 ≤ leng
 four-low lanes v l low is =
     subst FourLow (sym is)
     (low (v * 4 + 0) (omega arith), low (v * 4 + 1) (omega arith), low (v * 4 + 2) (omega arith), low (v * 4 + 3) (omega arith))
+
+-- those with a weight added
+pub along-small : {here by : Four} {weight : ℕ} → FourLow here → weight ≤ maxWeight → by ≡ alongFour here weight → FourSmall by
+along-small (a, b, c, d) l is = subst FourSmall (sym is) (omega arith, omega arith, omega arith, omega arith)
 
 -- what is asked where the arc at a place of a list is taken from the cells of its end
 pub along-asked : {i count : ℕ} {t : SheetTables} {list lanes : List ℕ} {here : Four} → ListLanes t list count lanes → i < count

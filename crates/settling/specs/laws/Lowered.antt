@@ -3,13 +3,11 @@
 use Prim.Native.Nat.{ℕ, _+_, _*_, _/_, _%_, _≤_, _<_}
 use mathlib.Core.Path.{_≡_, refl, sym, ap, _∙_, subst}
 use mathlib.Core.Logic.{_≢_, _⊎_, inl, inr}
-use mathlib.Core.Bool.{true, false}
 use mathlib.Core.List.{List}
 use native.Mathlib.Nat.{div-add-mod', mod-lt}
 use native.Mathlib.Omega.{arith}
 use native.Mathlib.Decide.{ℕ-discrete, decLt}
 use lib.ListN.{length}
-use Rattle.lists.specs.Below.{below-more}
 use Rattle.lists.specs.Sums.{sumTo, sumTo-lt}
 use Rattle.cost_table.specs.Cells.{cellIn}
 use Rattle.lanes.specs.declared.Four.{Four}
@@ -18,7 +16,7 @@ use Rattle.working_none.specs.laws.Low.{entry, AllLow}
 use Rattle.lent_tables.specs.SheetTables.{SheetTables}
 use Rattle.settling.specs.laws.Arcs.{startOf, endOf, weightOf, ListLanes, still-known}
 use Rattle.settling.specs.laws.ClosedOver.{ArcFrom, ClosedOver}
-use Rattle.settling.specs.laws.LowerFour.{alongFour, fallsFour, along-nth, cell-nth, none-falls, one-falls, LoweredAt}
+use Rattle.settling.specs.laws.LowerFour.{alongFour, along-nth, cell-nth, LoweredAt}
 
 -- arc e, with the cells of its end, gives its start these costs
 pub record Along (end weight : ℕ → ℕ) (lanes : List ℕ) (e : ℕ) (by : Four) : Type 0 where
@@ -51,7 +49,7 @@ module _ (m : ℕ) (start end weight : ℕ → ℕ) where
     pub lowered : Lowered before after
     pub closed : ClosedTo start end weight after m
 
--- ---- the first arc that gives less
+-- ---- one arc
 
 -- the costs along an arc to node v
 pub along-arc : (end weight : ℕ → ℕ) {e v x : ℕ} {here by : Four} {lanes : List ℕ} → here ≡ fourOf lanes v → by ≡ alongFour here x → weight e ≡ x
@@ -68,38 +66,7 @@ along-arc end weight {e} {v} {x} {here} {by} {lanes} was is w ends = record {
       );
 }
 
-module _ {start end weight : ℕ → ℕ} {lanes : List ℕ} where
-  pub closed-none : ClosedTo start end weight lanes 0
-  closed-none = record { each = λ e l. absurd (omega arith) }
-
-  module _ {e u : ℕ} {by : Four} (before : ClosedTo start end weight lanes e) (is : start e ≡ u) (A : Along end weight lanes e by) where
-    pub closed-more : fallsFour (fourOf lanes u) by ≡ false → ClosedTo start end weight lanes (e + 1)
-    closed-more none = record {
-      each =
-          below-more (λ d. (j : ℕ) → j < 4 → cellIn lanes 4 (start d) j ≤ weight d + cellIn lanes 4 (end d) j) e (before .each)
-          (λ j l.
-          omega (
-            arith,
-            none-falls (fourOf lanes u) by none j l,
-            cell-nth lanes u j l,
-            A .gives j l,
-            ap (λ (x : ℕ). cellIn lanes 4 x j) is,
-          ));
-    }
-
-    pub open-found : {m : ℕ} → e < m → fallsFour (fourOf lanes u) by ≡ true → FirstOpen m start end weight lanes e
-    open-found l some = record {
-      bound = omega arith;
-      before = before;
-      gives = λ _.
-          let (j, s, less) = one-falls (fourOf lanes u) by some in
-          (j, s, omega (arith, less, cell-nth lanes u j s, A .gives j s, ap (λ (x : ℕ). cellIn lanes 4 x j) is));
-    }
-
-  pub none-open : {m e : ℕ} → e ≡ m → ClosedTo start end weight lanes e → FirstOpen m start end weight lanes e
-  none-open q before = record { bound = omega arith; before = before; gives = λ l. absurd (omega arith) }
-
--- it is an arc
+-- the first arc that gives less is an arc
 pub is-arc : {m r : ℕ} {start end weight : ℕ → ℕ} {lanes : List ℕ} → FirstOpen m start end weight lanes r → r ≢ m → r < m
 is-arc F ne = omega (arith, F .bound)
 

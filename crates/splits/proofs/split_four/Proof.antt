@@ -14,10 +14,10 @@ use Rattle.splits.proofs.split_four.Statement.{statement}
 use Rattle.splits.proofs.split_four.Tie as tie
 
 abbrev Inv-loop : tie.InvT-loop
-Inv-loop sets size rows first last cells₀ by-set position₀ cells position = (first ≤ position) × (position ≤ last) × FourSplit (entryOf sets) first position size (nthNumber rows) cells₀ cells
+Inv-loop sets size rows heard first last cells₀ by-set position₀ cells position = (first ≤ position) × (position ≤ last) × FourSplit (entryOf sets) first position size (nthNumber rows) cells₀ cells
 
 abbrev μ-loop : tie.MeasureT-loop
-μ-loop sets size rows first last cells₀ by-set position₀ cells position = last - position
+μ-loop sets size rows heard first last cells₀ by-set position₀ cells position = last - position
 
 take-rows-requires : tie.Need-take-rows-requires Inv-loop μ-loop
 take-rows-requires c κs = let p = c .before .before .before .before .before .pre in (p .3, p .4)

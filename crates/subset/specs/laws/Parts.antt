@@ -52,6 +52,10 @@ has-part = bin-ind (λ (y : ℕ). (w : ℕ) → ((i : ℕ) → T (has y i) → T
         let r = half (w / 2) (λ i t. subst T (has-suc w i) (h (suc i) (subst T (sym (has-suc y i)) t))) in
         omega arith
 
+-- a part of a part is a part
+pub part-trans : (x y w : ℕ) → Part x y → Part y w → Part x w
+part-trans x y w p q = has-part x w (λ i t. part-has y w q i (part-has x y p i t))
+
 -- two sets that are parts of each other are equal
 pub part-antisym : (a b : ℕ) → Part a b → Part b a → a ≡ b
 part-antisym a b p q = sym p ∙ and-comm a b ∙ q
@@ -175,3 +179,10 @@ rest-disjoint = bin-ind (λ (w : ℕ). (y : ℕ) → Part y w → bitAnd y (w - 
 -- and they make the whole
 pub part-and-rest : (w y : ℕ) → Part y w → y + (w - y) ≡ w
 part-and-rest w y p = omega (arith, part-le y w p)
+
+-- the rest of a part that is not the whole is not empty, and that of one that is not empty is not the whole
+pub rest-some : (w y : ℕ) → Part y w → y ≢ w → w - y ≢ 0
+rest-some w y p proper e = proper (omega (arith, part-le y w p))
+
+pub rest-proper : (w y : ℕ) → Part y w → y ≢ 0 → w - y ≢ w
+rest-proper w y p some e = some (omega (arith, part-le y w p))

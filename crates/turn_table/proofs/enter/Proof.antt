@@ -63,6 +63,24 @@ mul-turns-3 c = search needs
 slice-write-turns-3 : tie.Need-slice-write-turns-3
 slice-write-turns-3 c = simp length-set (omega (arith, c .before .before .before .before .before .before .before .pre .0, c .before .before .before .before .before .before .before .pre .1))
 
+add-quarter : tie.Need-add-quarter
+add-quarter c = search needs
+
+mul-sooner-4 : tie.Need-mul-sooner-4
+mul-sooner-4 c = search needs
+
+slice-read-sooner-4 : tie.Need-slice-read-sooner-4
+slice-read-sooner-4 c = simp length-set (omega (arith, c .before .before .before .before .before .before .before .before .pre .0, c .before .before .before .before .before .before .before .before .pre .1))
+
+sooner-requires-4 : tie.Need-sooner-requires-4
+sooner-requires-4 c κs = search needs
+
+mul-turns-4 : tie.Need-mul-turns-4
+mul-turns-4 c = search needs
+
+slice-write-turns-4 : tie.Need-slice-write-turns-4
+slice-write-turns-4 c = simp length-set (omega (arith, c .before .before .before .before .before .before .before .before .before .pre .0, c .before .before .before .before .before .before .before .before .before .pre .1))
+
 same-length : tie.Need-same-length
 same-length c = search needs
 
@@ -92,5 +110,11 @@ enter-spec =
     sooner-requires-3
     mul-turns-3
     slice-write-turns-3
+    add-quarter
+    mul-sooner-4
+    slice-read-sooner-4
+    sooner-requires-4
+    mul-turns-4
+    slice-write-turns-4
     same-length
     returns)

@@ -2,9 +2,9 @@
 -- Assumes nothing.
 use Prim.Native.Nat.{ℕ, _^_}
 
--- one for each of 1,024 nodes, for each eight of them, and for each sixty-four
+-- one for each of 1,024 nodes, for each 8 of them, for each 64, and for each 256
 abbrev pub turnEntries : ℕ
-turnEntries = 1168
+turnEntries = 1172
 
 -- above every sum of four costs
 abbrev pub keyLimit : ℕ

@@ -4,17 +4,20 @@ use Prim.Native.Nat.{_+_, _-_, _≤_}
 use mathlib.Core.Path.{_≡_, _∙_}
 use native.Mathlib.Omega.{arith}
 use lib.ListN.{length}
+use borrow.Author.Needs.{needs}
 use Rattle.working_none.specs.laws.Low.{entry}
 use Rattle.turn_table.specs.laws.Entries.{turnEntries}
-use Rattle.visits.specs.laws.ByIndex.{LoweredByIndex, index-none, index-length, at-node, here-low, in-group, group-from, group-arc}
+use Rattle.settling.specs.laws.LowerFour.{along-small}
+use Rattle.settling.specs.laws.ByIndex.{at-node, here-low}
+use Rattle.visits.specs.laws.ByIndex.{LoweredByIndex, still-some, index-none, index-length, in-group, group-from, group-arc}
 use Rattle.visits.proofs.visit.Statement.{statement}
 use Rattle.visits.proofs.visit.Tie as tie
 
 abbrev Inv-loop : tie.InvT-loop
-Inv-loop starts weights index places n round v lanes₀ turns₀ here end first i₀ lanes turns i = (entry places v ≤ i) × (length turns ≡ turnEntries) × LoweredByIndex n starts weights index places lanes₀ lanes
+Inv-loop starts weights index places n round v lanes₀ turns₀ here end first soon₀ i₀ lanes turns soon i = (entry places v ≤ i) × (length turns ≡ turnEntries) × LoweredByIndex n starts weights index places lanes₀ lanes
 
 abbrev μ-loop : tie.MeasureT-loop
-μ-loop starts weights index places n round v lanes₀ turns₀ here end first i₀ lanes turns i = end - i
+μ-loop starts weights index places n round v lanes₀ turns₀ here end first soon₀ i₀ lanes turns soon i = end - i
 
 lanes-of-requires : tie.Need-lanes-of-requires Inv-loop μ-loop
 lanes-of-requires c κs = at-node (c .before .before .before .before .before .before .before .pre .2) (c .before .before .before .before .before .before .before .pre .1) .fits
@@ -47,7 +50,7 @@ next-falling-requires c κs =
     (here-low (start .pre .2) (start .pre .1) (read .lanes-of .ensures), group-from (start .pre .2) (start .pre .1) index-none (omega arith))
 
 loop-holds : tie.Need-loop-holds Inv-loop μ-loop
-loop-holds c = (c .next-falling .ensures, c .before .before .before .before .before .before .before .before .before .before .before .before .pre .0, index-none)
+loop-holds c = (c .next-falling .ensures .before .onward, c .before .before .before .before .before .before .before .before .before .before .before .before .pre .0, index-none)
 
 mul-e : tie.Need-mul-e Inv-loop μ-loop
 mul-e c = omega (arith, in-group (c .before .before .before .before .before .before .before .before .before .before .before .before .before .before .pre .2) (c .before .before .before .before .before .before .before .before .before .before .before .before .before .before .pre .1) (c .before .loop .inv .2) (c .before .loop .inv .0) (c .loop-test .taken))
@@ -100,18 +103,23 @@ lower-in-turn-requires c κs =
     let turn = tested .before in
     let start = turn .before .before .before .before .before .before .before .before .before .before .before .before .before in
     let e = in-group (start .pre .2) (start .pre .1) (turn .loop .inv .2) (turn .loop .inv .0) (tested .loop-test .taken) in
-    (turn .loop .inv .1, e .start-lt, e .fits)
+    let low = here-low (start .pre .2) (start .pre .1) (turn .before .before .before .before .before .lanes-of .ensures) in
+    let lanes = still-some (turn .loop .inv .2) (start .pre .2) in
+    (turn .loop .inv .1, e .start-lt, e .fits, lanes .by-end .low, along-small low (e .weight-low) (c .before .before .along .ensures))
+
+sooner-requires : tie.Need-sooner-requires Inv-loop μ-loop
+sooner-requires c κs = search needs
 
 add-next-falling : tie.Need-add-next-falling Inv-loop μ-loop
 add-next-falling c =
-    let tested = c .before .before .before .before .before .before .before .before .before .before .before in
+    let tested = c .before .before .before .before .before .before .before .before .before .before .before .before in
     let placed = tested .before .before .before .before .before in
     let start = placed .before .before .before .before .before .before .before .before .before in
     omega (arith, tested .loop-test .taken, placed .shared-slice-known5 .given (start .args .v + 1))
 
 next-falling-requires-2 : tie.Need-next-falling-requires-2 Inv-loop μ-loop
 next-falling-requires-2 c κs =
-    let lowered = c .before .before .before .before .before in
+    let lowered = c .before .before .before .before .before .before in
     let given = lowered .before .before .before in
     let tested = given .before .before .before .before in
     let turn = tested .before in
@@ -120,17 +128,17 @@ next-falling-requires-2 c κs =
     (here-low (start .pre .2) (start .pre .1) (read .lanes-of .ensures), group-from (start .pre .2) (start .pre .1) (group-arc (turn .loop .inv .2) (start .pre .1) (turn .loop .inv .0) (tested .loop-test .taken) (read .lanes-of .ensures) (given .along .ensures) (lowered .lower-in-turn .ensures)) (omega (arith, turn .loop .inv .0)))
 
 loop-less : tie.Need-loop-less Inv-loop μ-loop
-loop-less c = omega (arith, c .next-falling2 .ensures, c .before .before .before .before .before .before .before .before .before .before .before .before .before .loop-test .taken)
+loop-less c = omega (arith, c .next-falling2 .ensures .before .onward, c .before .before .before .before .before .before .before .before .before .before .before .before .before .before .loop-test .taken)
 
 loop-again : tie.Need-loop-again Inv-loop μ-loop
 loop-again c =
-    let lowered = c .before .before .before .before .before .before in
+    let lowered = c .before .before .before .before .before .before .before in
     let given = lowered .before .before .before in
     let tested = given .before .before .before .before in
     let turn = tested .before in
     let read = turn .before .before .before .before .before in
     let start = read .before .before .before .before .before .before .before .before in
-    (omega (arith, c .next-falling2 .ensures, turn .loop .inv .0), lowered .lower-in-turn .kept .1 .1 .1 .1 .0 ∙ turn .loop .inv .1, group-arc (turn .loop .inv .2) (start .pre .1) (turn .loop .inv .0) (tested .loop-test .taken) (read .lanes-of .ensures) (given .along .ensures) (lowered .lower-in-turn .ensures))
+    (omega (arith, c .next-falling2 .ensures .before .onward, turn .loop .inv .0), lowered .lower-in-turn .kept .1 .1 .1 .1 .0 ∙ turn .loop .inv .1, group-arc (turn .loop .inv .2) (start .pre .1) (turn .loop .inv .0) (tested .loop-test .taken) (read .lanes-of .ensures) (given .along .ensures) (lowered .lower-in-turn .ensures))
 
 same-length : tie.Need-same-length Inv-loop μ-loop
 same-length c = index-length (c .before .loop .inv .2) (c .before .before .before .before .before .before .before .before .before .before .before .before .before .before .pre .2)
@@ -167,6 +175,7 @@ visit-spec =
     shared-slice-read-along
     along-requires
     lower-in-turn-requires
+    sooner-requires
     add-next-falling
     next-falling-requires-2
     loop-less

@@ -1,5 +1,5 @@
--- "None" while the table is filled: a number above every total, of which two fit in four bytes when they are added. At the end each such cell
--- becomes the table's "none".
+-- "None" while the table is filled: a number above every total, of which two, when they are added, are below half of what four bytes hold. At the end
+-- each such cell becomes the table's "none".
 -- Assumes nothing.
 use Prim.Native.Nat.{ℕ, _<_}
 use mathlib.Core.Path.{_≡_, sym, ap, _∙_}
@@ -11,7 +11,7 @@ use lib.Dec.{eqb}
 use Rattle.limits.specs.Limits.{noCost}
 
 abbrev pub workingNone : ℕ
-workingNone = 2_147_483_647
+workingNone = 1_073_741_823
 
 -- a cell as it stands in the table at the end
 abbrev pub finished : ℕ → ℕ
