@@ -56,7 +56,7 @@ fn take_rows(cells: &[Cost], size: usize, rows: FourNumbers, by_set: &mut [Cost]
     }
 }
 
-// The stations that are heard at four sites.
+// The landing sets of four sites: the stations that are heard there, and the flag of a sender, which is no station.
 fn heard_at(landings: &[u16], sites: FourNumbers) -> FourNumbers
     requires { ⌜ (sites .a < length (now landings)) × (sites .b < length (now landings)) × (sites .c < length (now landings)) × (sites .d < length (now landings)) ⌝ }
 {

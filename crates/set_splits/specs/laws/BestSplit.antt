@@ -17,7 +17,7 @@ use Rattle.lanes.specs.laws.Four.{nth, lessFour, less-nth, below-four}
 use Rattle.working_none.specs.laws.WorkingNone.{workingNone}
 use Rattle.set_splits.specs.laws.FourCosts.{sumFour, rowsAt, rows-nth, bothFinite, none-finite}
 
--- w is split into y and the rest at a cost of r
+-- w is split into a part and the rest at a cost of r
 pub record SplitAt (f : ℕ → ℕ) (w r : ℕ) : Type 0 where
   pub part : ℕ
   pub within : Part part w
@@ -78,6 +78,7 @@ pub record Tried (f : ℕ → ℕ) (w y r : ℕ) : Type 0 where
   pub from : (r ≡ f w) ⊎ SplitAt f w r
 
 module _ (f : ℕ → ℕ) (w : ℕ) where
+  -- the others, for short
   abbrev u : ℕ
   u = others w
 

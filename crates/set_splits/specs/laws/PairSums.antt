@@ -19,7 +19,7 @@ abbrev pub pairFrom : List ℕ → (y rest lowest : ℕ) → Four
 pairFrom list y rest lowest =
     lessFour (sumFour (costsFrom list y) (costsFrom list (rest + lowest))) (sumFour (costsFrom list (y + lowest)) (costsFrom list rest))
 
--- the entries are the first ones of three sets without a terminal in common, and the list has the costs of these sets and of their parts
+-- the entries are the first ones of three sets, and the list has the costs of the sets up to their sum
 pub record PairAsked (list : List ℕ) (y rest lowest : ℕ) : Type 0 where
   pub side : ℕ
   pub other-side : ℕ
