@@ -2,8 +2,8 @@
 
 use uldhvamm::{Lengths, Tables};
 use uldhvamm_bench::compare::{both, Call, Run};
-use uldhvamm_bench::sheets::{bad_reading, chain, filled_sheet, gated_row, grid, licensed};
-use uldhvamm_bench::sheets::{random_sheet, Chain, Order, PlanFile, Random, Sheet};
+use uldhvamm_bench::sheets::{bad_reading, chain, filled_sheet, gated_row, grid, heard_often};
+use uldhvamm_bench::sheets::{licensed, random_sheet, Chain, Order, PlanFile, Random, Sheet};
 
 /// Runs both with tables of garbage, a few entries longer than needed, and fails where they differ.
 fn check(call: &Call, sheet: &Sheet) -> Run {
@@ -45,6 +45,14 @@ fn random_sheets_are_planned_alike() {
     assert!(plan_and_read(&random_sheet(1, 1024, 10, 8192, 1000)) > 9);
     assert!(plan_and_read(&random_sheet(2, 1024, 10, 8192, 3)) > 9);
     assert!(plan_and_read(&random_sheet(3, 1023, 10, 8191, 1_000_000)) > 9);
+}
+
+/// At each site every second, third or seventh station is heard, so that of most sets a station costs nothing there.
+#[test]
+fn sheets_with_many_landings_are_planned_alike() {
+    assert_eq!(plan_and_read(&heard_often(8, 2)), 1);
+    assert_eq!(plan_and_read(&heard_often(9, 3)), 2);
+    assert!(plan_and_read(&heard_often(10, 7)) > 4);
 }
 
 #[test]

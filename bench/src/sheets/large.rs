@@ -242,13 +242,7 @@ fn with_dear_ways(sheet: Sheet) -> Sheet {
 
 /// A sheet at every limit: 1,024 sites, each a sender by its own `SR`, 10 stations heard at each of them, 8,192 legs. It has 137,223 bytes.
 pub fn filled_sheet(seed: u64) -> Sheet {
-    let mut sheet = random_sheet(seed, 1024, 10, 8192, 1_000_000);
-    sheet.records.truncate(8192);
-    for site in 0..1024 {
-        sheet
-            .records
-            .extend((0..10).map(|station| Record::Landing { station, site }));
-    }
+    let mut sheet = heard_often(seed, 1);
     sheet
         .records
         .extend((0..1024).map(|site| Record::Sender { site }));
