@@ -158,9 +158,10 @@ uint32_t uldhvamm_cell(
     uint64_t *answer, size_t answer_length);
 
 /*
- * The best sender of a subset: of the senders by landings one whose cell of that subset is least and is not ULDHVAMM_NO_COST, or
- * ULDHVAMM_NO_SENDER where every sender's cell of that subset is ULDHVAMM_NO_COST or there is no sender. Which of several equally cheap
- * senders is given is left free. landings is as uldhvamm_plan leaves it beside the cells; that it is so rests on the caller too.
+ * The best sender of a subset: of the senders by landings the lowest of those whose cell of that subset is least, where that cell is not
+ * ULDHVAMM_NO_COST; ULDHVAMM_NO_SENDER where every sender's cell of that subset is ULDHVAMM_NO_COST or there is no sender. So over the
+ * tables that uldhvamm_plan leaves the best sender of all stations is the root of the plan, and that of subset 0 is the lowest sender.
+ * landings is as uldhvamm_plan leaves it beside the cells; that it is so rests on the caller too.
  */
 uint32_t uldhvamm_best_sender(
     const uint32_t *cells, size_t cells_length,

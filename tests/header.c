@@ -1,5 +1,5 @@
 /*
- * The header as C: plans sheet A of document 01, asks about its cost table and a smaller one, reads the plan file back, changes its
+ * The header as C: plans sheet A of document 01, asks about its cost table and two smaller ones, reads the plan file back, changes its
  * total and sets it back, plans an empty sheet, plans with tables of the index that are one entry short or two longer and with a short
  * buffer, and plans and reads with a licence for site 1 alone. After each planning it prints the two tables of the index whole.
  * tests/outside compiles it, links it with libuldhvamm.a, and compares what it prints.
@@ -30,6 +30,10 @@ static const uint8_t licence[] = {'S', 'R', 0, 1, 'E', 'D'};
 /* The cost table of two sites and one station that no site can serve; both sites are senders. */
 static const uint32_t unserved[] = {0, ULDHVAMM_NO_COST, 0, ULDHVAMM_NO_COST};
 static const uint16_t both_senders[] = {ULDHVAMM_SENDER_FLAG, ULDHVAMM_SENDER_FLAG};
+
+/* The cost table of four sites and one station, which costs 4 at sites 0, 2 and 3 and 7 at site 1; site 0 is no sender. */
+static const uint32_t tied[] = {0, 4, 0, 7, 0, 4, 0, 4};
+static const uint16_t later_senders[] = {0, ULDHVAMM_SENDER_FLAG, ULDHVAMM_SENDER_FLAG, ULDHVAMM_SENDER_FLAG};
 
 /* The sheet that is planned and read, and its length. */
 static uint8_t sheet[sizeof sheet_a + sizeof licence];
@@ -121,7 +125,7 @@ static void ask_for_sender(const char *name, size_t length, size_t entries, uint
     print_enquiry(name, number, ULDHVAMM_NO_SENDER);
 }
 
-/* Asks about the table that the planning has left, and about the smaller one. Subset 3 is stations 0 and 1, subset 7 all three. */
+/* Asks about the table that the planning has left, and about the smaller ones. Subset 3 is stations 0 and 1, subset 7 all three. */
 static void enquire(void)
 {
     const size_t length = SITES << STATIONS;
@@ -131,6 +135,7 @@ static void enquire(void)
     ask_for_cell("cell, table one entry short", length - 1, SITES, 1, 3);
     ask_for_cell("cell of site 4", length, SITES, 4, 3);
     ask_for_cell("cell of subset 8", length, SITES, 1, 8);
+    ask_for_sender("sender of subset 0", length, SITES, STATIONS, 0);
     ask_for_sender("sender of subset 3", length, SITES, STATIONS, 3);
     ask_for_sender("sender of subset 7", length, SITES, STATIONS, 7);
     ask_for_sender("sender, 11 stations", length, SITES, 11, 3);
@@ -138,6 +143,10 @@ static void enquire(void)
     ask_for_sender("sender, landings one entry short", length, SITES - 1, STATIONS, 3);
     ask_for_sender("sender of subset 8", length, SITES, STATIONS, 8);
     print_enquiry("sender of an unserved station", uldhvamm_best_sender(unserved, 4, both_senders, 2, 2, 1, 1, answer, 3),
+                  ULDHVAMM_NO_SENDER);
+    print_enquiry("the lowest of the cheapest senders", uldhvamm_best_sender(tied, 8, later_senders, 4, 4, 1, 1, answer, 3),
+                  ULDHVAMM_NO_SENDER);
+    print_enquiry("the lowest sender, of subset 0", uldhvamm_best_sender(tied, 8, later_senders, 4, 4, 1, 0, answer, 3),
                   ULDHVAMM_NO_SENDER);
 }
 
@@ -151,8 +160,8 @@ static void try_lengths(void)
 }
 
 /*
- * Site 1 alone may send: there is no plan, site 1 is the best sender of stations 0 and 1, and A's plan file, which the buffer still holds,
- * is refused: its root is site 0.
+ * Site 1 alone may send: there is no plan, site 1 is the best sender of no station and of stations 0 and 1, and A's plan file, which the
+ * buffer still holds, is refused: its root is site 0.
  */
 static void try_licence(void)
 {
@@ -160,6 +169,7 @@ static void try_licence(void)
     sheet_length = sizeof sheet_a - 2 + sizeof licence;
     print_plan("plan with one sender", LEGS, SITES + 1, PLAN_BYTES);
     printf("landing entries: %u %u\n", (unsigned)landings[0], (unsigned)landings[1]);
+    ask_for_sender("sender of subset 0", SITES << STATIONS, SITES, STATIONS, 0);
     ask_for_sender("sender of subset 3", SITES << STATIONS, SITES, STATIONS, 3);
     ask_for_sender("sender of subset 7", SITES << STATIONS, SITES, STATIONS, 7);
     print_answer("read with one sender", read_plan());

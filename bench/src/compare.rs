@@ -1,9 +1,6 @@
 //! Runs the library and the reference on equal copies of the same tables, and compares all that they leave.
-//!
-//! What the library answers to a question about a cost table is held to what is due by the reference.
 
 use crate::reference;
-use crate::reference::Due;
 use uldhvamm::{CostTable, Question, Tables};
 
 /// What a call returned and left.
@@ -104,23 +101,23 @@ pub fn both(call: &Call, sheet: &[u8], tables: &Tables, answer: &[u64]) -> Resul
     }
 }
 
-/// Asks the library, with a copy of `answer`. The number and the first entry are to be as due, the other entries as they were; else the
-/// error has the question and both in words.
-pub fn check_enquiry(
+/// Asks the library about a table and the reference about its own, which is to have the same entries, each with a copy of `answer`. Gives
+/// the number and `answer` where they agree, else the question and both in words.
+pub fn both_enquire(
     table: CostTable,
+    own: CostTable,
     question: Question,
     answer: &[u64],
-    due: &Due,
-) -> Result<(), String> {
-    let mut after = answer.to_vec();
-    let number = uldhvamm::enquire(table, question, &mut after);
-    let first = after.first().is_none_or(|value| due.values.contains(value));
-    if number == due.number && first && after.iter().skip(1).eq(answer.iter().skip(1)) {
-        return Ok(());
+) -> Result<(u32, Vec<u64>), String> {
+    let (mut ours, mut theirs) = (answer.to_vec(), answer.to_vec());
+    let number = uldhvamm::enquire(table, question, &mut ours);
+    let due = reference::enquire(own, question, &mut theirs);
+    if number == due && ours == theirs {
+        return Ok((number, ours));
     }
     Err(format!(
-        "{question:?}, {} sites, {} stations, {} cells {:?}, {} landing entries {:?}\nreturned {number} with {after:?} for {answer:?}, \
-         due is {due:?}",
+        "{question:?}, {} sites, {} stations, {} cells {:?}, {} landing entries {:?}\nreturned {number} with {ours:?} for {answer:?}, \
+         due is {due} with {theirs:?}",
         table.sites,
         table.stations,
         table.cells.len(),

@@ -1,14 +1,14 @@
 //! The enquirer against the reference: random cost tables with sound and damaged questions, and the finished tables of planned sheets.
 //!
-//! Of several best senders any is accepted. `answer` has 0 to 3 entries of garbage; those past the first are compared, and so are the
-//! cells and the landing entries. Each test counts what was answered and fails where an answer that it aims at did not occur.
+//! `answer` has 0 to 3 entries of garbage; it is compared whole, and so are the cells and the landing entries. Each test counts what was
+//! answered and fails where an answer that it aims at did not occur.
 
 use std::collections::BTreeMap;
 use std::hint::black_box;
 use uldhvamm::{answer_to_question, answer_to_sheet, best_sender, cell};
-use uldhvamm::{Answer, CostTable, Enquiry, Lengths, Question, Tables, NO_SENDER, SENDER_FLAG};
-use uldhvamm_bench::compare::{check_enquiry, some_site_reaches_all};
-use uldhvamm_bench::reference::{self, due, Due, NO_COST};
+use uldhvamm::{Answer, CostTable, Enquiry, Lengths, Question, Tables, SENDER_FLAG};
+use uldhvamm_bench::compare::{both_enquire, some_site_reaches_all};
+use uldhvamm_bench::reference::{self, NO_COST};
 use uldhvamm_bench::sheets::{licensed, random_sheet, small_sheet, wide_sheet};
 use uldhvamm_bench::sheets::{question, random_table, Random, Sheet};
 
@@ -27,23 +27,37 @@ impl Counts {
         }
     }
 
-    /// Counts what is due to a question.
-    fn add_due(&mut self, question: Question, due: &Due) {
-        let name = match question {
-            Question::Cell { .. } => "cell",
-            Question::BestSender { .. } => "sender",
-        };
-        match (due.number, question, due.values[0]) {
-            (0, Question::Cell { .. }, value) if value == u64::from(NO_COST) => {
-                self.add("cell: none");
+    /// Counts the answer to a question about a table.
+    fn add_answer(&mut self, table: CostTable, question: Question, answer: Enquiry) {
+        let none = u64::from(NO_COST);
+        match (question, answer) {
+            (_, Enquiry::Cell { cell }) if cell == none => self.add("cell: none"),
+            (_, Enquiry::Cell { cell: 0 }) => self.add("cell: 0"),
+            (_, Enquiry::Cell { cell }) if cell == none - 1 => self.add("cell: 4294967294"),
+            (_, Enquiry::Cell { .. }) => self.add("cell: another cost"),
+            (_, Enquiry::NoSender) => self.add("sender: none"),
+            (Question::BestSender { subset }, Enquiry::Sender { site }) => {
+                self.add_sender(table, subset as usize, site as usize);
             }
-            (0, Question::Cell { .. }, 0) => self.add("cell: 0"),
-            (0, Question::Cell { .. }, 4_294_967_294) => self.add("cell: 4294967294"),
-            (0, Question::Cell { .. }, _) => self.add("cell: another cost"),
-            (0, Question::BestSender { .. }, NO_SENDER) => self.add("sender: none"),
-            (0, Question::BestSender { .. }, _) if due.values.len() > 1 => self.add("sender: tie"),
-            (0, Question::BestSender { .. }, _) => self.add("sender: one"),
-            (number, _, _) => self.add(&format!("{name}: refused {number}")),
+            (Question::BestSender { .. }, Enquiry::Refused { number, .. }) => {
+                self.add(&format!("sender: refused {number}"));
+            }
+            (_, Enquiry::Refused { number, .. }) => self.add(&format!("cell: refused {number}")),
+            (Question::Cell { .. }, Enquiry::Sender { .. }) => panic!("{question:?}: {answer:?}"),
+        }
+    }
+
+    /// Counts a best sender: whether a later sender costs as much, and whether a lower site that is no sender costs no more.
+    fn add_sender(&mut self, table: CostTable, subset: usize, site: usize) {
+        let cost = |v: usize| table.cells[(v << table.stations) + subset];
+        let is_sender = |v: &usize| table.landings[*v] & SENDER_FLAG != 0;
+        let later = site + 1..table.sites as usize;
+        match later.filter(is_sender).any(|v| cost(v) == cost(site)) {
+            true => self.add("sender: tie"),
+            false => self.add("sender: one"),
+        }
+        if (0..site).any(|v| cost(v) <= cost(site)) {
+            self.add("sender: a lower site is none");
         }
     }
 
@@ -57,19 +71,20 @@ impl Counts {
     }
 }
 
-/// Asks the library, fails where its answer is not the one that is due, and counts it. `answer` has 0 to 3 entries of garbage.
+/// Asks the library about a table and the reference about its own, fails where they differ, and counts the answer. `answer` has 0 to 3
+/// entries of garbage.
 fn check(
     random: &mut Random,
     counts: &mut Counts,
     table: CostTable,
+    own: CostTable,
     question: Question,
-    due: &Due,
 ) {
     let answer: [u64; 3] = std::array::from_fn(|_| random.bits());
     let entries = random.below(4);
-    check_enquiry(table, question, &answer[..entries], due)
+    both_enquire(table, own, question, &answer[..entries])
         .unwrap_or_else(|words| panic!("{words}"));
-    counts.add_due(question, due);
+    counts.add_answer(table, question, answer_to_question(table, question));
 }
 
 #[test]
@@ -81,8 +96,7 @@ fn random_tables_are_enquired_alike() {
         let before = black_box((table.cells.clone(), table.landings.clone()));
         for _ in 0..8 {
             let question = question(random, &table);
-            let due = due(table.lend(), question);
-            check(random, &mut counts, table.lend(), question, &due);
+            check(random, &mut counts, table.lend(), table.lend(), question);
         }
         let after = black_box(&table);
         assert!(after.cells == before.0, "cells, seed {seed}");
@@ -103,6 +117,7 @@ fn random_tables_are_enquired_alike() {
         "sender: none",
         "sender: one",
         "sender: tie",
+        "sender: a lower site is none",
     ];
     counts.require("random tables enquired", &aims, 1000);
 }
@@ -143,9 +158,7 @@ fn check_faults(sites: u32, stations: u32, bad_head: bool) {
         let number = best_sender(table, subset, &mut answer);
         let short = few_cells || few_entries;
         let expected = first(&[(bad_head, 3), (short, 11), (no_set, 5)]);
-        assert_eq!((number, answer[1]), (expected, 9), "{described}");
-        let end = if expected == 0 { u64::from(sites) } else { 1 };
-        assert!(answer[0] < end, "{described}");
+        assert_eq!((number, answer), (expected, [0, 9]), "{described}");
     }
 }
 
@@ -214,52 +227,40 @@ impl Planned {
     }
 }
 
-/// Asks the library about its own table, and holds the answer to what is due by the reference's.
-fn check_finished(random: &mut Random, counts: &mut Counts, planned: &Planned, question: Question) {
-    let due = due(planned.reference_table(), question);
-    check(random, counts, planned.table(), question, &due);
-}
-
-/// Asks for every cell and for the best sender of every subset. Of the empty subset every sender is a best one.
+/// Asks for every cell and for the best sender of every subset, the library about its table and the reference about its own. Of the empty
+/// subset the lowest sender is the best one.
 fn check_all(random: &mut Random, counts: &mut Counts, planned: &Planned) {
+    let (table, own) = (planned.table(), planned.reference_table());
     for subset in 0..=planned.full() {
         for site in 0..planned.sites {
-            let question = Question::Cell { site, subset };
-            check_finished(random, counts, planned, question);
+            check(random, counts, table, own, Question::Cell { site, subset });
         }
-        check_finished(random, counts, planned, Question::BestSender { subset });
+        check(random, counts, table, own, Question::BestSender { subset });
     }
-    let empty = Question::BestSender { subset: 0 };
     let flagged = (0..)
-        .zip(&planned.own.landings)
-        .filter(|(_, &entry)| entry & SENDER_FLAG != 0);
-    let senders: Vec<u64> = flagged.map(|(site, _)| site).collect();
-    assert_eq!(due(planned.reference_table(), empty).values, senders);
+        .zip(own.landings)
+        .find(|(_, &entry)| entry & SENDER_FLAG != 0);
+    let site = flagged.map(|(site, _)| site).expect("a sender");
+    let lowest = answer_to_question(table, Question::BestSender { subset: 0 });
+    assert_eq!(lowest, Enquiry::Sender { site });
 }
 
-/// Holds the best sender of all stations to the answer of the planning: its cell is the plan's total, and there is none for 12.
+/// Holds the best sender of all stations to the answer of the planning: it is the root of the plan, its cell is the plan's total, and there
+/// is none for 12.
 fn check_against_plan(counts: &mut Counts, planned: &Planned) {
     let subset = planned.full();
     let sender = answer_to_question(planned.table(), Question::BestSender { subset });
-    let cost = match sender {
-        Enquiry::Sender { site } => {
-            let site = site as u32;
-            match answer_to_question(planned.table(), Question::Cell { site, subset }) {
-                Enquiry::Cell { cell } => Some(cell),
-                other => panic!("{other:?}"),
-            }
-        }
-        Enquiry::NoSender => None,
-        other => panic!("{other:?}"),
-    };
     match planned.answer {
-        Answer::Plan { total, .. } => {
+        Answer::Plan { root, total, .. } => {
             counts.add("planned");
-            assert_eq!(cost, Some(total));
+            assert_eq!(sender, Enquiry::Sender { site: root });
+            let site = root as u32;
+            let cell = answer_to_question(planned.table(), Question::Cell { site, subset });
+            assert_eq!(cell, Enquiry::Cell { cell: total });
         }
         Answer::Refused { number, .. } => {
             assert!(number == 12 || number == 13);
-            assert_eq!(cost.is_none(), number == 12);
+            assert_eq!(sender == Enquiry::NoSender, number == 12);
             counts.add(match (number, some_site_reaches_all(planned.table())) {
                 (12, true) => "planning refused 12 for want of a licence",
                 (12, false) => "planning refused 12 for want of legs",
@@ -295,6 +296,7 @@ fn finished_tables_are_enquired_alike() {
         "sender: none",
         "sender: one",
         "sender: tie",
+        "sender: a lower site is none",
     ];
     counts.require("finished tables enquired", &aims, 200);
 }

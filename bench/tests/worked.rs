@@ -179,14 +179,14 @@ fn senders(sheet: &Sheet) -> Vec<Enquiry> {
         .collect()
 }
 
-/// Fails where the best sender of a subset is none of its sites.
-fn check_senders(sheet: &Sheet, expected: &[&[u64]]) {
-    let found = senders(sheet);
-    assert_eq!(found.len(), expected.len());
-    for (subset, (answer, sites)) in found.into_iter().zip(expected).enumerate() {
-        let is_one = matches!(answer, Enquiry::Sender { site } if sites.contains(&site));
-        assert!(is_one, "subset {subset}: {answer:?}, not of {sites:?}");
-    }
+/// Fails where the best senders of the subsets are not these sites; `None` is none.
+fn check_senders(sheet: &Sheet, expected: &[Option<u64>]) {
+    let answer = |&site: &Option<u64>| match site {
+        Some(site) => Enquiry::Sender { site },
+        None => Enquiry::NoSender,
+    };
+    let expected: Vec<Enquiry> = expected.iter().map(answer).collect();
+    assert_eq!(senders(sheet), expected, "{sheet:?}");
 }
 
 #[test]
@@ -209,18 +209,18 @@ fn cells_of_a_are_given() {
     assert_eq!(ask(3, 8), refused(5));
 }
 
+/// Of several equally cheap senders the lowest, and of the empty subset the lowest sender; a lower site that is no sender is passed over.
 #[test]
 fn best_senders_are_given() {
-    check_senders(
-        &sheet_a(),
-        &[&[0, 1, 2, 3], &[2], &[3], &[1], &[0], &[0], &[0], &[0]],
-    );
-    check_senders(&sheet_c(), &[&[0, 1, 2], &[0], &[1, 2], &[0]]);
-    check_senders(&sheet_d(7), &[&[0, 1], &[0], &[1], &[0, 1]]);
-    let e = senders(&Sheet::new(2, 2).landing(0, 0).landing(1, 1));
-    assert_eq!(e[3], Enquiry::NoSender);
-    let of_one = senders(&sheet_a().sender(1));
-    let site = Enquiry::Sender { site: 1 };
-    assert_eq!(of_one[..4], [site; 4]);
-    assert_eq!(of_one[4..], [Enquiry::NoSender; 4]);
+    check_senders(&sheet_a(), &[0, 2, 3, 1, 0, 0, 0, 0].map(Some));
+    let of_one = [Some(1), Some(1), Some(1), Some(1), None, None, None, None];
+    check_senders(&sheet_a().sender(1), &of_one);
+    let of_two = [Some(2), Some(2), Some(3), None, None, None, None, None];
+    check_senders(&sheet_a().sender(3).sender(2), &of_two);
+    check_senders(&sheet_c(), &[0, 0, 1, 0].map(Some));
+    check_senders(&sheet_c().sender(2), &[Some(2), None, Some(2), None]);
+    check_senders(&sheet_d(7), &[0, 0, 1, 0].map(Some));
+    check_senders(&sheet_d(7).sender(1), &[1, 1, 1, 1].map(Some));
+    let e = Sheet::new(2, 2).landing(0, 0).landing(1, 1);
+    check_senders(&e, &[Some(0), Some(0), Some(1), None]);
 }

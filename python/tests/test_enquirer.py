@@ -1,7 +1,4 @@
-"""The enquirer: cells and best senders of the worked sheets and of random small sheets by trial, each refusal, and numbers out of range.
-
-Which of several equally cheap sites is a best sender is left free: any of them is accepted.
-"""
+"""The enquirer: cells and best senders of the worked sheets and of random small sheets by trial, each refusal, and numbers out of range."""
 
 from __future__ import annotations
 
@@ -34,10 +31,10 @@ ROWS_OF_E: list[list[Optional[int]]] = [[0, 0, None, None], [0, None, 0, None]]
 SENDER = 1024
 
 
-def best_of(rows: list[list[Optional[int]]], senders: Collection[int], subset: int) -> list[Optional[int]]:
-    """Every sender whose cell of a subset is least among the senders and finite, or None alone."""
+def best_of(rows: list[list[Optional[int]]], senders: Collection[int], subset: int) -> list[int]:
+    """Every sender whose cell of a subset is least among the senders and finite, the lowest first: the best sender is the first of them."""
     costs = [(cost, site) for site, row in enumerate(rows) if site in senders and (cost := row[subset]) is not None]
-    return [site for cost, site in costs if cost == min(costs)[0]] or [None]
+    return [site for cost, site in costs if cost == min(costs)[0]]
 
 
 class Enquirer(unittest.TestCase):
@@ -52,20 +49,15 @@ class Enquirer(unittest.TestCase):
         assert isinstance(table, CostTable), table
         return table
 
-    def site_of(self, answer: Union[BestSender, Refusal]) -> Optional[int]:
-        """The site of a best sender."""
-        assert isinstance(answer, BestSender), answer
-        return answer.site
-
     def compare(self, table: CostTable, rows: list[list[Optional[int]]], senders: Collection[int]) -> int:
-        """Tests every cell and every best sender of a table. Gives the number of subsets with several best senders."""
+        """Tests every cell and every best sender of a table. Gives the number of subsets of which several senders cost least."""
         ties = 0
         for site, row in enumerate(rows):
             self.assertEqual([self.library.cell(table, site, subset) for subset in range(len(row))], [Cell(cost) for cost in row])
         for subset in range(len(rows[0])):
             best = best_of(rows, senders, subset)
             ties += len(best) > 1
-            self.assertIn(self.site_of(self.library.best_sender(table, subset)), best)
+            self.assertEqual(self.library.best_sender(table, subset), BestSender(best[0] if best else None))
         return ties
 
     def test_worked_sheets(self) -> None:
@@ -76,16 +68,23 @@ class Enquirer(unittest.TestCase):
                 self.assertEqual(table.cells, tuple(NONE if cost is None else cost for row in rows for cost in row))
                 self.assertEqual(self.compare(table, rows, range(len(rows))), ties)
 
-    def test_the_best_sender_of_all_stations_has_the_total_of_the_plan(self) -> None:
+    def test_the_best_sender_of_all_stations_is_the_root_of_the_plan(self) -> None:
         for name in ["A", "B", "C", "D", "G"]:
             with self.subTest(sheet=name):
                 plan = self.library.plan(SHEETS[name])
                 assert isinstance(plan, Plan)
                 table = self.finished(SHEETS[name])
                 full = (1 << table.stations) - 1
-                site = self.site_of(self.library.best_sender(table, full))
-                assert site is not None
-                self.assertEqual(self.library.cell(table, site, full), Cell(plan.total))
+                self.assertEqual(self.library.best_sender(table, full), BestSender(plan.root))
+                self.assertEqual(self.library.cell(table, plan.root, full), Cell(plan.total))
+
+    def test_of_several_cheapest_senders_the_lowest_is_named(self) -> None:
+        cells = [0, 4, 0, 7, 0, 4, 0, 4]
+        for senders, station, empty in [("1111", 0, 0), ("0111", 2, 1), ("0011", 2, 2), ("0101", 3, 1), ("0001", 3, 3), ("0100", 1, 1)]:
+            with self.subTest(senders=senders):
+                table = CostTable(4, 1, cells, [SENDER * int(flag) for flag in senders])
+                self.assertEqual(self.library.best_sender(table, 1), BestSender(station))
+                self.assertEqual(self.library.best_sender(table, 0), BestSender(empty))
 
     def test_a_sheet_without_a_plan_has_a_table(self) -> None:
         self.assertEqual(self.library.plan(SHEETS["E"]), Refusal(12, 0))
@@ -96,7 +95,7 @@ class Enquirer(unittest.TestCase):
     def test_the_empty_subset(self) -> None:
         table = self.finished(SHEETS["A"])
         self.assertEqual([self.library.cell(table, site, 0) for site in range(4)], [Cell(0)] * 4)
-        self.assertIn(self.site_of(self.library.best_sender(table, 0)), range(4))
+        self.assertEqual(self.library.best_sender(table, 0), BestSender(0))
 
     def test_sheets_with_senders(self) -> None:
         for senders, entries in [([1], (4, 1024, 1, 2)), ([3, 2], (4, 0, 1025, 1026)), ([1, 0, 1], (1028, 1024, 1, 2))]:
@@ -122,7 +121,7 @@ class Enquirer(unittest.TestCase):
             case = small_case(chance, most_sites=7, most_links=16, most_stations=4)
             rows = cells_by_growth(case.network)
             ties += self.compare(self.finished(case.sheet), rows, case.network.senders)
-            if best_of(rows, case.network.senders, len(rows[0]) - 1) == [None]:
+            if not best_of(rows, case.network.senders, len(rows[0]) - 1):
                 reached = some_site_reaches_all(rows)
                 unlicensed += reached
                 unreached += not reached
@@ -139,7 +138,7 @@ class Enquirer(unittest.TestCase):
         for more in [[], [0], [0] * 9]:
             table = CostTable(4, 2, cells + more, [SENDER] * 4 + more)
             self.assertEqual(self.compare(table, rows, range(4)), 2)
-        self.assertEqual(self.site_of(self.library.best_sender(CostTable(3, 2, cells, [SENDER] * 3), 3)), 1)
+        self.assertEqual(self.library.best_sender(CostTable(3, 2, cells, [SENDER] * 3), 3), BestSender(1))
 
     def test_any_landing_entries(self) -> None:
         rows: list[list[Optional[int]]] = [[0, 7], [0, 8], [0, 9]]

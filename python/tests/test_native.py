@@ -209,7 +209,7 @@ class Native(unittest.TestCase):
         self.asked_cell([3, 3, 2, 1], 0, 0, length=24)
 
     def test_senders(self) -> None:
-        for subset, site in [(1, 2), (2, 3), (3, 1), (4, 0), (5, 0), (6, 0), (7, 0)]:
+        for subset, site in [(0, 0), (1, 2), (2, 3), (3, 1), (4, 0), (5, 0), (6, 0), (7, 0)]:
             self.asked_sender([4, 3, subset], 0, site)
         unserved = (ctypes.c_uint32 * 4)(0, NONE, 0, NONE)
         landings = (ctypes.c_uint16 * 2)(1024, 1024)
@@ -223,6 +223,7 @@ class Native(unittest.TestCase):
             self.asked_sender([4, 3, subset], 0, site, flags=[4, 1024, 1, 2])
         for subset, site in [(0, 3), (1, none), (2, 3), (3, none)]:
             self.asked_sender([4, 3, subset], 0, site, flags=[63488, 1023, 2048, 65535])
+        self.asked_sender([4, 3, 0], 0, 2, flags=[4, 0, 1025, 1026])
         self.asked_sender([4, 3, 0], 0, none, flags=[0, 0, 0, 0])
         self.asked_sender([4, 3, 3], 0, none, flags=[0, 0, 0, 0, 1024])
         for subset in [0, 7, 8]:

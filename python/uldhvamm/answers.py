@@ -47,9 +47,8 @@ class Cell:
 
 @dataclass(frozen=True)
 class BestSender:
-    """The best sender of a subset: of the sites that may send, one whose cell is least and finite, or None where none has a finite cell.
-
-    Which of several equally cheap sites is given is left free.
+    """The best sender of a subset: of the sites that may send, the lowest of those whose cell is least, or None where none has a finite
+    cell.
     """
 
     site: Optional[int]

@@ -125,8 +125,8 @@ class Library:
         return Cell(None if value[0] == NO_COST else value[0])
 
     def best_sender(self, table: CostTable, subset: int) -> Union[BestSender, Refusal]:
-        """Of the sites that may send, one whose cell of a subset of the stations is least and finite, or that there is none. Station i is
-        worth 2^i in the subset.
+        """Of the sites that may send, the lowest of those whose cell of a subset of the stations is least, where that is finite, or that
+        there is none. Station i is worth 2^i in the subset.
 
         Refused are, in this order: a bad head (3), too few cells or landing entries (11), a subset that the table has not (5). A number
         that does not fit four bytes is a ValueError.

@@ -158,7 +158,7 @@ pub struct CostTable<'a> {
 pub enum Question {
     /// The cell of a site and a subset.
     Cell { site: u32, subset: u32 },
-    /// The best sender of a subset, among the sites that may send.
+    /// The best sender of a subset: of the sites that may send the lowest of those whose cell is least.
     BestSender { subset: u32 },
 }
 
@@ -170,7 +170,7 @@ pub const NO_SENDER: u64 = u64::MAX;
 pub enum Enquiry {
     /// A cell as it stands in the table; 4,294,967,295 is "none".
     Cell { cell: u64 },
-    /// A sender whose cell is finite and not above another sender's.
+    /// Of the senders whose cell is least, and finite, the lowest.
     Sender { site: u64 },
     /// No sender has a finite cell of the subset.
     NoSender,

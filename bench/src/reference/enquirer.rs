@@ -4,32 +4,23 @@ use super::sheet::FLAG;
 use super::NO_COST;
 use uldhvamm::{CostTable, Question, NO_SENDER};
 
-/// What is due to a question: the number that is returned, and the values of which `answer` is to begin with one.
-///
-/// Where several sites are best senders each of them is such a value. Otherwise there is one.
-#[derive(Clone, Debug, PartialEq, Eq)]
-pub struct Due {
-    pub number: u32,
-    pub values: Vec<u64>,
-}
-
-/// What is due to a question about a table.
-pub fn due(table: CostTable, question: Question) -> Due {
-    let values = match question {
+/// Answers a question about a table. Returns 0 for a cell, a sender and `NO_SENDER`, else the number of the refusal. Its value or its
+/// place is written to `answer`, if that has an entry.
+pub fn enquire(table: CostTable, question: Question, answer: &mut [u64]) -> u32 {
+    let found = match question {
         Question::Cell { site, subset } => cell(table, site, subset),
-        Question::BestSender { subset } => best_senders(table, subset),
+        Question::BestSender { subset } => best_sender(table, subset),
     };
-    match values {
-        Ok(values) => Due { number: 0, values },
-        Err(number) => Due {
-            number,
-            values: vec![0],
-        },
-    }
+    let (number, value) = match found {
+        Ok(value) => (0, value),
+        Err(number) => (number, 0),
+    };
+    answer.iter_mut().take(1).for_each(|to| *to = value);
+    number
 }
 
 /// The cell of a site and a subset, or the number of the refusal.
-fn cell(table: CostTable, site: u32, subset: u32) -> Result<Vec<u64>, u32> {
+fn cell(table: CostTable, site: u32, subset: u32) -> Result<u64, u32> {
     let sets = sets(table)?;
     if site >= table.sites {
         return Err(4);
@@ -37,12 +28,11 @@ fn cell(table: CostTable, site: u32, subset: u32) -> Result<Vec<u64>, u32> {
     if subset as usize >= sets {
         return Err(5);
     }
-    let cell = table.cells[site as usize * sets + subset as usize];
-    Ok(vec![u64::from(cell)])
+    Ok(table.cells[site as usize * sets + subset as usize].into())
 }
 
-/// Every flagged site whose cell is finite and not above another flagged site's, or `NO_SENDER` alone, or the number of the refusal.
-fn best_senders(table: CostTable, subset: u32) -> Result<Vec<u64>, u32> {
+/// Of the flagged sites with a finite cell the lowest of the cheapest, or `NO_SENDER`, or the number of the refusal.
+fn best_sender(table: CostTable, subset: u32) -> Result<u64, u32> {
     let sets = sets(table)?;
     let entries = table.landings.get(..table.sites as usize).ok_or(11_u32)?;
     if subset as usize >= sets {
@@ -50,18 +40,9 @@ fn best_senders(table: CostTable, subset: u32) -> Result<Vec<u64>, u32> {
     }
     let rows = (0..).zip(table.cells.chunks_exact(sets).zip(entries));
     let flagged = rows.filter(|(_, (_, &entry))| entry & FLAG != 0);
-    let senders: Vec<(u64, u32)> = flagged
-        .map(|(site, (row, _))| (site, row[subset as usize]))
-        .collect();
-    let least = senders.iter().map(|&(_, cell)| cell).min();
-    let is_best = |cell: u32| cell != NO_COST && Some(cell) == least;
-    let found = senders.into_iter().filter(|&(_, cell)| is_best(cell));
-    let best: Vec<u64> = found.map(|(site, _)| site).collect();
-    Ok(if best.is_empty() {
-        vec![NO_SENDER]
-    } else {
-        best
-    })
+    let costs = flagged.map(|(site, (row, _))| (row[subset as usize], site));
+    let finite = costs.filter(|&(cell, _)| cell != NO_COST);
+    Ok(finite.min().map_or(NO_SENDER, |(_, site)| site))
 }
 
 /// The number of subsets of the stations, after the tests for 3 and for the cells' 11.

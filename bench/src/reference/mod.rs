@@ -14,7 +14,7 @@
 //!
 //! `answer` gets as many of its values as it has entries. Entries past those named are as before.
 //!
-//! Of the enquirer, which names any of several best senders, it says what is due (`due`).
+//! A question about a cost table writes `answer` alone.
 
 mod enquirer;
 mod groups;
@@ -24,7 +24,7 @@ mod plan_file;
 mod search;
 mod sheet;
 
-pub use enquirer::{due, Due};
+pub use enquirer::enquire;
 pub use sheet::{read as read_sheet, Leg, Sheet};
 
 use plan_file::PlanFile;

@@ -10,6 +10,7 @@ mod trees;
 use family::{has_both, has_parallel, has_repeat, has_sender_repeat, has_several, Generator};
 use files::{file_of, Reading};
 use lent::{Left, BEFORE};
+use std::collections::BTreeSet;
 use trees::{Small, Tree};
 use uldhvamm::{answer_to_question, answer_to_sheet, Answer, Enquiry, Question, Tables};
 use uldhvamm_bench::sheets::{tiny_sheet, Random, Sheet};
@@ -32,8 +33,8 @@ pub struct Counts {
     no_plan: usize,
     /// Sheets of which trees reach every station, but none from a sender.
     unlicensed: usize,
-    /// Sets of stations that have a best sender, and those that have none.
-    senders: [usize; 2],
+    /// Sets of stations by the senders that cost least: none, one, several.
+    senders: [usize; 3],
     lists: usize,
     files: usize,
     /// The plan reader's answers by their numbers; acceptances are at 0.
@@ -89,20 +90,21 @@ fn try_plan(reading: &Reading, trees: &[Tree], counts: &mut Counts) {
     reading.try_roots(&cells, counts);
 }
 
-/// Asks for the best sender of every set of stations: a root of one of the best trees, or none where there are none.
+/// Asks for the best sender of every set of stations: the lowest root of the best trees, or none where there are none.
 fn try_senders(small: &Small, trees: &[Tree], left: &Left, counts: &mut Counts) {
     for subset in 0..=small.full() {
         let best = small.best(trees, subset);
+        let roots: BTreeSet<usize> = best.iter().map(|tree| tree.root).collect();
+        let due = match roots.first() {
+            Some(&root) => Enquiry::Sender { site: root as u64 },
+            None => Enquiry::NoSender,
+        };
         let question = Question::BestSender {
             subset: subset as u32,
         };
-        let is_due = match answer_to_question(left.table(small), question) {
-            Enquiry::Sender { site } => best.iter().any(|tree| tree.root as u64 == site),
-            Enquiry::NoSender => best.is_empty(),
-            _ => false,
-        };
-        assert!(is_due, "{left:?}, subset {subset}");
-        counts.senders[usize::from(best.is_empty())] += 1;
+        let answer = answer_to_question(left.table(small), question);
+        assert_eq!(answer, due, "{left:?}, subset {subset}");
+        counts.senders[roots.len().min(2)] += 1;
     }
 }
 

@@ -24,7 +24,7 @@
 //! - `cells VALUE ..`: `VALUE*N` is the value N times, `none` is 4294967295.
 //! - `landings VALUE ..`: the landing entries, in the same way; a sender's has the bit worth 1024.
 //! - `cell NAME: SITES STATIONS SITE SUBSET`: the cell of a site and a subset.
-//! - `sender NAME: SITES STATIONS SUBSET`: the best sender of a subset. Of several the lowest is printed.
+//! - `sender NAME: SITES STATIONS SUBSET`: the best sender of a subset.
 //! - `every NAME: SITES STATIONS`: subset after subset, the cell of each site and the best sender.
 //!
 //! BYTES: a printable ASCII character other than `\`, `(`, `)`, `{` and `}` stands for itself, `\` and two hexadecimal digits for a byte,

@@ -1,7 +1,7 @@
 //! The library and the reference, which are lent the first entries of tables.
 
 use std::hint::black_box;
-use uldhvamm::{answer_to_question, plan_lent, read_plan_lent};
+use uldhvamm::{enquire, plan_lent, read_plan_lent};
 use uldhvamm::{Answer, CostTable, Enquiry, Lengths, Lent, Question, Tables};
 use uldhvamm_bench::reference;
 
@@ -39,15 +39,14 @@ impl Planner {
         Answer::decode(number, &answer)
     }
 
-    /// Asks about cells. Of several best senders the reference gives the lowest.
+    /// Asks about cells.
     pub fn ask(self, table: CostTable, question: Question) -> Enquiry {
-        match self {
-            Planner::Library => answer_to_question(table, question),
-            Planner::Reference => {
-                let due = reference::due(table, question);
-                Enquiry::decode(question, due.number, &[due.values[0]])
-            }
-        }
+        let mut answer = [77];
+        let number = match self {
+            Planner::Library => enquire(table, question, &mut answer),
+            Planner::Reference => reference::enquire(table, question, &mut answer),
+        };
+        Enquiry::decode(question, number, &answer)
     }
 }
 

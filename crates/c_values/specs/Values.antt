@@ -27,9 +27,3 @@ valuesOf (refused family number place) = place ∷ []
 pub record Gives (s : Stated) (number : ℕ) (answer after : List ℕ) : Type 0 where
   pub returned : number ≡ numberOf s
   pub values : after ≡ fitOver (valuesOf s) answer
-
--- it gives one of the answers of which P holds
-pub record GivesOne (P : Stated → Type 0) (number : ℕ) (answer after : List ℕ) : Type 0 where
-  pub given : Stated
-  pub allowed : P given
-  pub gives : Gives given number answer after

@@ -1,10 +1,10 @@
 -- The theorem of specs/laws/Enquired.antt, of calls: where a call of `plan_sheet` has planned the sheet, or answered 12 or 13, calls of
 -- `enquirer::cell` and `enquirer::best_sender` over the cells that it left, the second with the landing entries that it left as well, with the
--- sheet's n and k, give the least total and a sender that attains it. Of each call only what its contract promises is used (`Learnt`, which the
--- checker makes of the `ensures` for callers).
+-- sheet's n and k, give the least total and the lowest of the senders that attain it. Of each call only what its contract promises is used
+-- (`Learnt`, which the checker makes of the `ensures` for callers).
 -- Assumes nothing.
 use Prim.Native.Nat.{ℕ, _^_, _<_}
-use mathlib.Core.Path.{_≡_, sym, subst}
+use mathlib.Core.Path.{_≡_, sym, ap, ap₂, _∙_, subst}
 use mathlib.Core.List.{List}
 use contract.Lifetimes.{Lfts}
 use borrow.Fn.Kinds.{Dens, endedOf}
@@ -17,6 +17,7 @@ use Rattle.graph.specs.Graph.{Graph}
 use Rattle.number_fields.specs.Fields.{Bytes}
 use Rattle.network.specs.Network.{graphOf}
 use Rattle.mission.specs.Runs.{GoodWith}
+use Rattle.questions.specs.Questions.{cellAnswer, senderAnswer}
 use Rattle.engine.proofs.planning.plan_sheet.Kinds as plan-kinds
 use Rattle.engine.proofs.planning.plan_sheet.Reads as plan-sheet
 use Rattle.enquirer.proofs.cell.Kinds as cell-kinds
@@ -39,10 +40,9 @@ pub record CallsMean (n k : ℕ) (G : Graph) (left entries : List ℕ) : Type 0 
 calls : (n k : ℕ) (G : Graph) (left entries : List ℕ) → MeansLeast n k G left entries → CallsMean n k G left entries
 calls n k G left entries means = record {
   cell-call = λ κs cells same v w on small r e learnt.
-      subst (λ (x : List ℕ). MeansLeast n k G x entries) (sym same) means .cell-means v w on small (statedEnquiry r) learnt;
+      subst (CellMeans G v w) (sym (learnt ∙ ap (λ (x : List ℕ). cellAnswer x n k v w) same)) (means .cell-means v w on small);
   sender-call = λ κs cells landings same alike w small r e learnt.
-      subst (MeansLeast n k G (now cells)) (sym alike) (subst (λ (x : List ℕ). MeansLeast n k G x entries) (sym same) means)
-      .sender-means w small (statedEnquiry r) learnt;
+      subst (SenderMeans G w) (sym (learnt ∙ ap₂ (λ (x y : List ℕ). senderAnswer x y n k w) same alike)) (means .sender-means w small);
 }
 
 -- after a call of the engine: its arguments a, of which the first is the sheet, its answer r, and what it left e, of which the fifth is the landing

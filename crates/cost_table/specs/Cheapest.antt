@@ -1,9 +1,10 @@
 -- The cheapest sender of a set in a list of cells for k terminals: of the senders whose cell of the set is least, the lowest.
 -- Assumes nothing.
-use Prim.Native.Nat.{ℕ, _^_, _≤_, _<_}
-use mathlib.Core.Bool.{Bool, cond}
+use Prim.Native.Nat.{ℕ, _^_}
+use mathlib.Core.Bool.{Bool, true, cond}
 use mathlib.Core.List.{List}
 use Rattle.limits.specs.Limits.{noCost}
+use Rattle.lists.specs.Cheapest.{LowestCheapest}
 use Rattle.landing_entries.specs.Entries.{isSenderAt}
 use Rattle.cost_table.specs.Cells.{cellIn}
 
@@ -19,8 +20,6 @@ ofSenders isSender c v = cond (isSender v) (c v) noCost
 abbrev pub senderColumn : (cells landings : List ℕ) → (k w : ℕ) → ℕ → ℕ
 senderColumn cells landings k w = ofSenders (isSenderAt landings) (columnIn cells k w)
 
--- r is the lowest of the numbers below n at which f is least
-pub record LowestTo (f : ℕ → ℕ) (n r : ℕ) : Type 0 where
-  pub below : r < n
-  pub cheapest : (u : ℕ) → u < n → f r ≤ f u
-  pub lowest : (u : ℕ) → u < r → f r < f u
+-- r is the lowest of the numbers below n at which f is least: every number passes
+abbrev pub LowestTo : (ℕ → ℕ) → (n r : ℕ) → Type 0
+LowestTo f n r = LowestCheapest (λ _. true) f n r

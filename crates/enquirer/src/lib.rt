@@ -7,7 +7,7 @@ use questions::cell_question::cell_in;
 use questions::sender_question::best_sender_in;
 ghost use mathlib.Core.Path.{_≡_};
 ghost use Rattle.answer.specs.Stated.{statedEnquiry};
-ghost use Rattle.questions.specs.Questions.{cellAnswer, SenderAnswer};
+ghost use Rattle.questions.specs.Questions.{cellAnswer, senderAnswer};
 
 // A finished cost table for n sites and k stations.
 pub struct Enquirer<'a> {
@@ -33,7 +33,7 @@ impl<'a> Enquirer<'a> {
 
     // The best sender of the subset w, by these landing sets.
     pub fn best_sender(self, landings: &'a [u16], w: u32) -> Enquiry
-        ensures { λ r. ⌜ SenderAnswer (now (self .entry .cells)) (now (landings .entry)) (self .entry .n) (self .entry .k) w (statedEnquiry r) ⌝ }
+        ensures { λ r. ⌜ statedEnquiry r ≡ senderAnswer (now (self .entry .cells)) (now (landings .entry)) (self .entry .n) (self .entry .k) w ⌝ }
     {
         best_sender_in(self.cells, landings, self.n, self.k, w)
     }
@@ -48,7 +48,7 @@ pub fn cell(cells: &[Cost], n: u32, k: u32, v: u32, w: u32) -> Enquiry
 
 // The best sender of the subset w, of a table for n sites and k stations, by these landing sets.
 pub fn best_sender<'a>(cells: &'a [Cost], landings: &'a [u16], n: u32, k: u32, w: u32) -> Enquiry
-    ensures { λ r. ⌜ SenderAnswer (now (cells .entry)) (now (landings .entry)) n k w (statedEnquiry r) ⌝ }
+    ensures { λ r. ⌜ statedEnquiry r ≡ senderAnswer (now (cells .entry)) (now (landings .entry)) n k w ⌝ }
 {
     Enquirer::new(cells, n, k).best_sender(landings, w)
 }

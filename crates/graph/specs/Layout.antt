@@ -1,31 +1,22 @@
 -- Laying out a plan from the cells of a table (document 01, "Laying out a plan"), over any cell function: the root, and the arcs in the
 -- order in which they are added. A cell is finite where it is below `top`.
 -- Assumes nothing.
-use Prim.Native.Nat.{ℕ, zero, suc, _+_, _-_, _≤_, _<_}
+use Prim.Native.Nat.{ℕ, zero, suc, _+_, _-_}
 use mathlib.Core.Bool.{Bool, true, false, not, _&&_, _||_}
 use mathlib.Core.Option.{Option, none, some}
 use mathlib.Core.List.{List, [], _∷_, _++_}
-use lib.Dec.{T, eqb, ltb, leb}
-use Rattle.lists.specs.Find.{allTo, anyTo, first}
+use lib.Dec.{eqb, ltb}
+use Rattle.lists.specs.Find.{anyTo, first}
+use Rattle.lists.specs.Cheapest.{lowestCheapest}
 use Rattle.subset.specs.Sets.{single, has, full, isPart}
 use Rattle.graph.specs.Graph.{Graph}
 
 -- ---- the root
 
--- v may be a root, and no node that may costs less, where node u costs f u
-abbrev pub isCheapest : Graph → (ℕ → ℕ) → ℕ → Bool
-isCheapest G f v = G .mayRoot v && allTo (λ u. not (G .mayRoot u) || leb (f v) (f u)) (G .nodes)
-
--- the lowest such node, where a node costs its cell of the full set; it is a node also where every cell is "none"
+-- the lowest of the nodes that may be a root and cost least, where a node costs its cell of the full set; it is a node also where every cell is
+-- "none"
 abbrev pub rootOf : Graph → (ℕ → ℕ → ℕ) → Option ℕ
-rootOf G c = first (isCheapest G (λ v. c v (full (G .terminals)))) (G .nodes)
-
--- what that means: v is the lowest of the nodes that may be a root and cost least
-pub record LowestCheapest (G : Graph) (f : ℕ → ℕ) (v : ℕ) : Type 0 where
-  pub node : v < G .nodes
-  pub may : T (G .mayRoot v)
-  pub cheapest : (u : ℕ) → u < G .nodes → T (G .mayRoot u) → f v ≤ f u
-  pub lowest : (u : ℕ) → u < v → T (G .mayRoot u) → f v < f u
+rootOf G c = lowestCheapest (G .mayRoot) (λ v. c v (full (G .terminals))) (G .nodes)
 
 -- ---- the tests
 

@@ -15,6 +15,7 @@ use lib.Pow.{ones-lt}
 use Rattle.lists.specs.Every.{Every}
 use Rattle.lists.specs.Count.{bit, count}
 use Rattle.lists.specs.Find.{first}
+use Rattle.lists.specs.Cheapest.{LowestCheapest, found-cheapest, none-found}
 use Rattle.lists.specs.Listed.{listed, every-listed, Distinct}
 use Rattle.lists.specs.Sums.{same-count, sumTo}
 use Rattle.subset.specs.Sets.{full, single, Part}
@@ -25,7 +26,7 @@ use Rattle.graph.specs.Subtrees.{Subtree, held, Covers, CoversAll, total
 use Rattle.graph.specs.LeastTotals.{leastTotal, leastCell, NoSubtree, Least, IsLeastTotal, IsCostTable, Room}
 use Rattle.graph.specs.Growth.{firstExtending, keptThen, growIn, grow, kept}
 use Rattle.graph.specs.ClosedSupported.{Closed, Supported, Capped, StartedSet, ClosedSet}
-use Rattle.graph.specs.Layout.{isDone, fits, splits, followIn, layoutIn, layout, rootOf, LowestCheapest}
+use Rattle.graph.specs.Layout.{isDone, fits, splits, followIn, layoutIn, layout, rootOf}
 use Rattle.graph.specs.laws.Holding.{held-reached, reached-held}
 use Rattle.graph.specs.laws.SubtreeParts.{start-reached}
 use Rattle.graph.specs.laws.SubtreeSize.{subtree-length}
@@ -44,7 +45,7 @@ use Rattle.graph.specs.laws.SameCells.{same-layout as layouts-agree, sam
 use Rattle.graph.specs.laws.Settling.{splits-start, started-lower, arcs-close, closed-kept}
 use Rattle.graph.specs.laws.Finite.{cell-finite, full-finite, full-none}
 use Rattle.graph.specs.laws.PartCells.{parts-below}
-use Rattle.graph.specs.laws.Roots.{root-facts, cheapest-first, no-root, root-lower}
+use Rattle.graph.specs.laws.Roots.{root-lower}
 use Rattle.graph.specs.laws.UniquePaths.{subtree-one-path, one-path-subtree, subtree-distinct, subtree-no-loop, touched-held}
 
 -- ==== Tests, and definitions with a number of turns
@@ -110,6 +111,11 @@ module _ (G : Graph) (sound : Sound G) (c : ℕ → ℕ → ℕ) (top v w : ℕ)
 -- "the least total of a directed subtree with root v that holds a landing of each station in W, or .. where none exists"
 pub least-total-is-least : (G : Graph) (v w : ℕ) → IsLeastTotal G v w (leastTotal G v w)
 least-total-is-least = least-total
+
+-- there is only one
+pub one-least : (G : Graph) (v w x y : ℕ) → Least G v w x → Least G v w y → x ≡ y
+one-least G v w x y a b =
+    omega (arith, a .attained, b .attained, a .least (b .tree) (b .subtree) (b .covers), b .least (a .tree) (a .subtree) (a .covers))
 
 -- so each cell of a cost table is the least total, or `top` where there is none; the empty set's too, where no node is charged
 pub cell-is-least : (G : Graph) (top : ℕ) (c : ℕ → ℕ → ℕ) → IsCostTable G c top → ((v : ℕ) → G .charge v ≡ 0)
@@ -322,22 +328,18 @@ subtree-touches = touched-held
 -- ==== 8. The root
 
 -- "The root is the lowest site whose full-set cell is least", of the nodes that may be a root
-pub root-rule : (G : Graph) (c : ℕ → ℕ → ℕ) (v : ℕ) → rootOf G c ≡ some v → LowestCheapest G (λ u. c u (full (G .terminals))) v
-root-rule = root-facts
-
--- and such a node is the one that it names
-pub rule-root : (G : Graph) (c : ℕ → ℕ → ℕ) (v : ℕ) → LowestCheapest G (λ u. c u (full (G .terminals))) v → rootOf G c ≡ some v
-rule-root G c = cheapest-first G (λ u. c u (full (G .terminals)))
+pub root-rule : (G : Graph) (c : ℕ → ℕ → ℕ) (v : ℕ) → rootOf G c ≡ some v → LowestCheapest (G .mayRoot) (λ u. c u (full (G .terminals))) (G .nodes) v
+root-rule G c = found-cheapest (G .mayRoot) (λ u. c u (full (G .terminals))) (G .nodes)
 
 -- it names no node only where no node may be a root
 pub root-none : (G : Graph) (c : ℕ → ℕ → ℕ) → rootOf G c ≡ none → (u : ℕ) → u < G .nodes → T (not (G .mayRoot u))
-root-none = no-root
+root-none G c = none-found (G .mayRoot) (λ u. c u (full (G .terminals))) (G .nodes)
 
 -- at the least totals no directed subtree with a root that may be one, and that holds a landing of every terminal, costs less
 pub root-least : (G : Graph) (c : ℕ → ℕ → ℕ) (top : ℕ) → 1 ≤ G .terminals → IsCostTable G c top → (v : ℕ) → rootOf G c ≡ some v
     → (r : ℕ) (L : List ℕ) → T (G .mayRoot r) → Subtree G r L → Covers G r L (full (G .terminals)) → c v (full (G .terminals)) ≤ total G r L
 root-least G c top some-terminal table v q =
-    root-lower G top c table (full (G .terminals)) v (full-ne (G .terminals) some-terminal) (ones-lt (G .terminals)) (root-facts G c v q)
+    root-lower G top c table (full (G .terminals)) v (full-ne (G .terminals) some-terminal) (ones-lt (G .terminals)) (root-rule G c v q)
 
 -- two cell functions that agree on the nodes and sets of the graph have the same root
 pub same-root : (G : Graph) (c d : ℕ → ℕ → ℕ) → ((v w : ℕ) → v < G .nodes → w < 2 ^ G .terminals → c v w ≡ d v w) → rootOf G c ≡ rootOf G d

@@ -10,10 +10,11 @@ pub mod Count
 pub mod Listed
 pub mod DistinctValues
 pub mod Find
--- sums, what remains of a list without the entries of another, and least values
+-- sums, what remains of a list without the entries of another, least values, and the lowest of the cheapest numbers
 pub mod Sums
 pub mod Remaining
 pub mod Least
+pub mod Cheapest
 -- sublists, and the entries of a list of any kind
 pub mod Sublists
 pub mod Members

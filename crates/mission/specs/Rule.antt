@@ -63,15 +63,16 @@ pub data Added (G : Graph) : (v w : ℕ) → List ℕ → Type 0 where
   split : {v w : ℕ} {L M : List ℕ} (y : ℕ) → (Nothing G v w → ⊥) → ((e : ℕ) → ArcFits G v w e → ⊥) → Lowest (PartSplits G v w) y
       → Added G v y L → Added G v (w - y) M → Added G v w (L ++ M)
 
--- v may be a root, x is its cost for the full set, and no site that may be a root costs less
-pub record LeastRoot (G : Graph) (x v : ℕ) : Type 0 where
+-- v may be a root, x is its cost for the set w, and no site that may be a root costs less. The lowest such site is "the lowest cheapest sender"
+-- (document 02, W-201): of the full set the root of a plan, and of each set the best sender (W-203)
+pub record LeastRoot (G : Graph) (w x v : ℕ) : Type 0 where
   pub node : v < G .nodes
   pub may-root : T (G .mayRoot v)
-  pub costs : Costs G v (full (G .terminals)) x
-  pub least : (u y : ℕ) → u < G .nodes → T (G .mayRoot u) → Costs G u (full (G .terminals)) y → x ≤ y
+  pub costs : Costs G v w x
+  pub least : (u y : ℕ) → u < G .nodes → T (G .mayRoot u) → Costs G u w y → x ≤ y
 
 -- the plan by the rule: "The root is the lowest site whose full-set cell is least", of the sites that may be a root, "the lowest cheapest
 -- sender" (document 02, W-201); the legs laid out from it with the full set
 pub record ByRule (G : Graph) (root cost : ℕ) (L : List ℕ) : Type 0 where
-  pub root-is : Lowest (LeastRoot G cost) root
+  pub root-is : Lowest (LeastRoot G (full (G .terminals)) cost) root
   pub laid : Added G root (full (G .terminals)) L

@@ -13,9 +13,9 @@ ghost use Rattle.lent_tables.specs.SheetTables.{sheetTables};
 ghost use Rattle.lent_tables.specs.IndexTables.{indexTables};
 ghost use Rattle.mission.specs.Runs.{engineTables, readerTables};
 ghost use Rattle.engine.specs.Engine.{planningOf};
-ghost use Rattle.questions.specs.Questions.{cellAnswer, SenderAnswer};
+ghost use Rattle.questions.specs.Questions.{cellAnswer, senderAnswer};
 ghost use Rattle.plan_reader.specs.Reader.{readingOf};
-ghost use Rattle.c_values.specs.Values.{Gives, GivesOne};
+ghost use Rattle.c_values.specs.Values.{Gives};
 ghost use Rattle.uldhvamm.specs.Interface.{interface};
 ghost use Rattle.uldhvamm.specs.Returned.{call, callOf};
 
@@ -114,7 +114,7 @@ pub extern "C" fn uldhvamm_best_sender<'a>(
     subset: u32,
     answer: &mut [u64],
 ) -> u32
-    ensures { λ r. ⌜ GivesOne (SenderAnswer (now (cells .entry)) (now (landings .entry)) sites stations subset) r
+    ensures { λ r. ⌜ Gives (senderAnswer (now (cells .entry)) (now (landings .entry)) sites stations subset) r
         (now (answer .entry)) (now (answer .exit)) ⌝ }
 {
     let sent = best_sender(cells, landings, sites, stations, subset);

@@ -188,7 +188,7 @@ module _ {n k m : ℕ} {t : SheetTables} {cells : List ℕ} (F : FinishedSheet n
         some-finite : allNone G ≡ false
         some-finite =
             by-test (allNone G) (λ b. b ≡ false)
-            (λ q. absurd (R .some-cost (cost-is ∙ is-cell ∙ all-none-at G q root on (root-rule G (leastCell G noCost) root is-root .may))))
+            (λ q. absurd (R .some-cost (cost-is ∙ is-cell ∙ all-none-at G q root on (root-rule G (leastCell G noCost) root is-root .passes))))
             (λ q. refl)
 
     -- the arcs are a subtree's

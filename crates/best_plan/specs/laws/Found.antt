@@ -104,10 +104,10 @@ module _ (G : Graph) (g : Plannable G) where
   from-root : (root : ℕ) → rootOf G (leastCell G noCost) ≡ some root → fullCell G root < noCost → PlanFound G (planFrom G root)
   from-root root q finite =
       let r = root-rule G (leastCell G noCost) root q in
-      let laid = layout-is-least G (g .sound) noCost (g .room) (leastCell G noCost) (least-table G) root w (r .node) filled (ones-lt (G .terminals)) finite in
+      let laid = layout-is-least G (g .sound) noCost (g .room) (leastCell G noCost) (least-table G) root w (r .below) filled (ones-lt (G .terminals)) finite in
       let (all, _) = covers-all G root (planFrom G root .arcs) in
       record {
-        is-plan = record { may-root = r .may; subtree = laid .subtree; covers = all (laid .covers); true-total = sym (laid .cell) };
+        is-plan = record { may-root = r .passes; subtree = laid .subtree; covers = all (laid .covers); true-total = sym (laid .cell) };
         by-rule = laid-by-rule G g root q finite;
         finite = finite;
         few = laid .few;
@@ -131,8 +131,8 @@ module _ (G : Graph) (g : Plannable G) where
       go false h (some root) q =
           let finite = root-finite h root q in
           let r = root-rule G (leastCell G noCost) root q in
-          let (there, _) = finite-iff root (r .node) in
-          subst (λ (o : Option ℕ). Outcome (planAt G o)) (sym q) (from-root root q finite, (root, r .node, r .may, there finite))
+          let (there, _) = finite-iff root (r .below) in
+          subst (λ (o : Option ℕ). Outcome (planAt G o)) (sym q) (from-root root q finite, (root, r .below, r .passes, there finite))
 
   -- there is no plan exactly where no node that may be a root reaches all
   pub none-found : planOf G ≡ none → SomeReachesAll G → ⊥

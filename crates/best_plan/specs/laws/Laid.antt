@@ -17,10 +17,11 @@ use Rattle.subset.specs.laws.Parts.{part-le, full-ne}
 use Rattle.graph.specs.Graph.{Graph, Sound, Landing}
 use Rattle.graph.specs.LeastTotals.{leastTotal, leastCell, Least, IsLeastTotal, IsCostTable, Room}
 use Rattle.graph.specs.Layout.{isDone, fits, splits, layout, rootOf}
-use Rattle.graph.specs.Theorems.{least-total-is-least, rule-nothing, rule-arc, rule-split, step-applies, splitting-leads, root-rule}
+use Rattle.graph.specs.Theorems.{least-total-is-least, one-least, rule-nothing, rule-arc, rule-split, step-applies, splitting-leads, root-rule}
 use Rattle.graph.specs.laws.LeastMeaning.{cell-total}
 use Rattle.graph.specs.laws.LayoutRule.{fits-facts, facts-fit, splits-facts, facts-split, done-facts, facts-done}
 use Rattle.mission.specs.Rule.{Costs, Lowest, Nothing, ArcFits, PartSplits, Added, nothing, follow, split, ByRule}
+use Rattle.mission.specs.laws.Roots.{lowest-by}
 use Rattle.best_plan.specs.Plan.{fullCell}
 
 -- ---- finite cells
@@ -32,8 +33,7 @@ module _ (G : Graph) (top v w : ℕ) (filled : w ≢ 0) where
     where
       go : (o : Option ℕ) → IsLeastTotal G v w o → Option·getD o top ≡ x
       go none says = absurd (says (l .tree) (l .subtree) (l .covers))
-      go (some y) says =
-          omega (arith, says .attained, l .attained, l .least (says .tree) (says .subtree) (says .covers), says .least (l .tree) (l .subtree) (l .covers))
+      go (some y) says = one-least G v w y x says l
 
   -- it is finite
   pub costs-finite : Room G top → (x : ℕ) → Costs G v w x → x < top
@@ -181,16 +181,6 @@ module _ (G : Graph) (g : Plannable G) where
       let filled : w ≢ 0 = full-ne (G .terminals) (g .some-terminal) in
       record {
         root-is =
-            record {
-              holds =
-                  record {
-                    node = r .node;
-                    may-root = r .may;
-                    costs = finite-costs G noCost root w filled finite;
-                    least = λ u y on may costs. omega (arith, r .cheapest u on may, costs-cell G noCost u w filled y costs);
-                  };
-              lowest = λ u less also.
-                  omega (arith, r .lowest u less (also .may-root), costs-cell G noCost u w filled (fullCell G root) (also .costs));
-            };
-        laid = added-in (suc (fullCell G root + w)) root w (omega arith) (r .node) filled (ones-lt (G .terminals)) finite;
+            lowest-by G w (fullCell G) (λ u y on costs. costs-cell G noCost u w filled y costs) root r (finite-costs G noCost root w filled finite);
+        laid = added-in (suc (fullCell G root + w)) root w (omega arith) (r .below) filled (ones-lt (G .terminals)) finite;
       }

@@ -14,8 +14,9 @@ module _ (f : ℕ → ℕ) where
   pub lowest-one : LowestTo f 1 0
   lowest-one = record {
     below = omega arith;
-    cheapest = below-more (λ u. f 0 ≤ f u) 0 (λ u l. absurd (omega arith)) (omega arith);
-    lowest = λ u l. absurd (omega arith);
+    passes = tt;
+    cheapest = λ u l _. below-more (λ u. f 0 ≤ f u) 0 (λ u l. absurd (omega arith)) (omega arith) u l;
+    lowest = λ u l _. absurd (omega arith);
   }
 
   -- with one number more, which is taken where it costs less
@@ -25,12 +26,18 @@ module _ (f : ℕ → ℕ) where
       let less = ltb→lt (f n) (f r) t in
       record {
         below = omega arith;
-        cheapest = below-more (λ u. f n ≤ f u) n (λ u l. omega (arith, h .cheapest u l)) (omega arith);
-        lowest = λ u l. omega (arith, h .cheapest u l);
+        passes = tt;
+        cheapest = λ u l _. below-more (λ u. f n ≤ f u) n (λ u l. omega (arith, h .cheapest u l tt)) (omega arith) u l;
+        lowest = λ u l _. omega (arith, h .cheapest u l tt);
       })
       (λ t.
       let more = nltb→le (f n) (f r) t in
-      record { below = omega (arith, h .below); cheapest = below-more (λ u. f r ≤ f u) n (h .cheapest) more; lowest = h .lowest })
+      record {
+        below = omega (arith, h .below);
+        passes = tt;
+        cheapest = λ u l _. below-more (λ u. f r ≤ f u) n (λ u l. h .cheapest u l tt) more u l;
+        lowest = h .lowest;
+      })
 
   pub lowest-next : (n r q : ℕ) → LowestTo f n r → q ≡ cond (ltb (f n) (f r)) n r → LowestTo f (n + 1) q
   lowest-next n r q h e = rw e (lowest-more n r h)

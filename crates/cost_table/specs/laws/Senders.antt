@@ -8,14 +8,8 @@ use native.Mathlib.Omega.{arith}
 use lib.Dec.{T}
 use Rattle.limits.specs.Limits.{noCost}
 use Rattle.lists.specs.Tests.{choice-passed, choice-first}
+use Rattle.lists.specs.Cheapest.{LowestCheapest}
 use Rattle.cost_table.specs.Cheapest.{ofSenders, LowestTo}
-
--- r is the lowest of the senders below n that cost least (`LowestCheapest` of crate graph says it of the nodes of a graph)
-pub record LowestSender (isSender : ℕ → Bool) (c : ℕ → ℕ) (n r : ℕ) : Type 0 where
-  pub below : r < n
-  pub sender : T (isSender r)
-  pub cheapest : (u : ℕ) → u < n → T (isSender u) → c r ≤ c u
-  pub lowest : (u : ℕ) → u < r → T (isSender u) → c r < c u
 
 module _ (isSender : ℕ → Bool) (c : ℕ → ℕ) where
   -- by the test of the flag
@@ -33,15 +27,15 @@ module _ (isSender : ℕ → Bool) (c : ℕ → ℕ) where
   finite-sender v finite = choice-passed (isSender v) (c v) noCost (λ e. omega arith)
 
   module _ (n r : ℕ) (h : LowestTo (ofSenders isSender c) n r) where
-    pub lowest-sender : ofSenders isSender c r < noCost → LowestSender isSender c n r
+    pub lowest-sender : ofSenders isSender c r < noCost → LowestCheapest isSender c n r
     lowest-sender finite =
         let (sender, is) = finite-sender r finite in
         record {
           below = h .below;
-          sender = sender;
-          cheapest = λ u l s. omega (arith, h .cheapest u l, is, cost-is u s);
-          lowest = λ u l s. omega (arith, h .lowest u l, is, cost-is u s);
+          passes = sender;
+          cheapest = λ u l s. omega (arith, h .cheapest u l tt, is, cost-is u s);
+          lowest = λ u l s. omega (arith, h .lowest u l tt, is, cost-is u s);
         }
 
     pub no-sender : noCost ≤ ofSenders isSender c r → (u : ℕ) → u < n → T (isSender u) → noCost ≤ c u
-    no-sender none u l s = omega (arith, h .cheapest u l, cost-is u s)
+    no-sender none u l s = omega (arith, h .cheapest u l tt, cost-is u s)

@@ -8,23 +8,20 @@ use mathlib.Core.List.{List, _∷_, _++_}
 use native.Mathlib.Omega.{arith}
 use lib.Dec.{eqb, ltb, leb}
 use lib.Pow.{ones-lt}
-use Rattle.lists.specs.Find.{all-same, first, first-same, first-says}
+use Rattle.lists.specs.Find.{first, first-same, first-says}
+use Rattle.lists.specs.Cheapest.{cheapest-same}
 use Rattle.subset.specs.Sets.{full, isPart}
 use Rattle.graph.specs.Graph.{Graph, Sound}
-use Rattle.graph.specs.Layout.{isDone, fits, splits, isCheapest, rootOf, step, followIn, layoutIn, layout}
+use Rattle.graph.specs.Layout.{isDone, fits, splits, rootOf, step, followIn, layoutIn, layout}
 use Rattle.graph.specs.laws.LayoutRule.{step-same}
 
 module _ (G : Graph) (c d : ℕ → ℕ → ℕ) (same : (v w : ℕ) → v < G .nodes → w < 2 ^ G .terminals → c v w ≡ d v w) where
   -- ---- the root
 
   pub same-root : rootOf G c ≡ rootOf G d
-  same-root = first-same (isCheapest G (λ v. c v (full (G .terminals)))) (isCheapest G (λ v. d v (full (G .terminals)))) (G .nodes) (λ v on.
-      ap (λ (b : Bool). G .mayRoot v && b) (all-same (λ u. not (G .mayRoot u) || leb (c v (full (G .terminals))) (c u (full (G .terminals))))
-      (λ u. not (G .mayRoot u) || leb (d v (full (G .terminals))) (d u (full (G .terminals)))) (G .nodes)
-      (λ u l. ap₂ (λ (x y : ℕ). not (G .mayRoot u) || leb x y) (at v on) (at u l))))
-    where
-      at : (v : ℕ) → v < G .nodes → c v (full (G .terminals)) ≡ d v (full (G .terminals))
-      at v on = same v (full (G .terminals)) on (ones-lt (G .terminals))
+  same-root =
+      cheapest-same (G .mayRoot) (G .mayRoot) (λ v. c v (full (G .terminals))) (λ v. d v (full (G .terminals))) (G .nodes) (λ v on. refl)
+      (λ v on. same v (full (G .terminals)) on (ones-lt (G .terminals)))
 
   -- ---- the layout
 

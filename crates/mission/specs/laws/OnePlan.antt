@@ -1,22 +1,12 @@
 -- The stated rule gives one plan: the root, the cost and the legs are determined by it.
 -- Assumes nothing.
-use Prim.Native.Nat.{ℕ, _-_, _<_}
+use Prim.Native.Nat.{ℕ, _-_}
 use mathlib.Core.Path.{_≡_, refl, sym, ap, ap₂, _∙_, subst}
 use mathlib.Core.List.{List, [], _∷_, _++_}
-use native.Mathlib.Omega.{arith}
-use native.Mathlib.Decide.{decLt}
 use Rattle.subset.specs.Sets.{full}
 use Rattle.graph.specs.Graph.{Graph}
-use Rattle.mission.specs.Rule.{Lowest, Nothing, ArcFits, PartSplits, Added, nothing, follow, split, LeastRoot, ByRule}
-
--- the lowest number with a property is one number
-lowest-one : (P : ℕ → Type 0) (x y : ℕ) → Lowest P x → Lowest P y → x ≡ y
-lowest-one P x y a b = go (decLt x y) (decLt y x)
-  where
-    go : Dec (x < y) → Dec (y < x) → x ≡ y
-    go (yes l) _ = absurd (b .lowest x l (a .holds))
-    go (no _) (yes l) = absurd (a .lowest y l (b .holds))
-    go (no p) (no q) = omega arith
+use Rattle.mission.specs.Rule.{Lowest, Nothing, ArcFits, PartSplits, Added, nothing, follow, split, ByRule}
+use Rattle.mission.specs.laws.Roots.{lowest-one, one-root}
 
 -- what is added at a node with a set, by the way in which another list was added there
 module _ (G : Graph) where
@@ -59,10 +49,6 @@ module _ (G : Graph) where
   pub one-plan : (root root' cost cost' : ℕ) (L L' : List ℕ) → ByRule G root cost L → ByRule G root' cost' L'
       → (root ≡ root') × (cost ≡ cost') × (L ≡ L')
   one-plan root root' cost cost' L L' a b =
-      let x = a .root-is .holds in
-      let y = b .root-is .holds in
-      let costs : cost ≡ cost' =
-      omega (arith, x .least root' cost' (y .node) (y .may-root) (y .costs), y .least root cost (x .node) (x .may-root) (x .costs)) in
-      let roots : root ≡ root' =
-      lowest-one (LeastRoot G cost') root root' (subst (λ (z : ℕ). Lowest (LeastRoot G z) root) costs (a .root-is)) (b .root-is) in
-      (roots, costs, added-one (subst (λ (z : ℕ). Added G z (full (G .terminals)) L) roots (a .laid)) (b .laid))
+      let w : ℕ = full (G .terminals) in
+      let (roots, costs) = one-root G w root root' cost cost' (a .root-is) (b .root-is) in
+      (roots, costs, added-one (subst (λ (z : ℕ). Added G z w L) roots (a .laid)) (b .laid))

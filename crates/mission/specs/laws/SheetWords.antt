@@ -52,11 +52,11 @@ module _ (n k : ℕ) (records : List Record) where
   abbrev may-of : (v : ℕ) → v < n → T (isSender records v) → T (G .mayRoot v)
   may-of v on sender = let (_, back) = sheet-may-root v in back (on, sender)
 
-  -- x is the cost of a sender for the full set, and no sender's is less
-  pub sheet-least-root : (x v : ℕ)
-      → LeastRoot G x v ↔ ((v < n) × T (isSender records v) × Costs G v (full k) x
-      × ((u y : ℕ) → u < n → T (isSender records u) → Costs G u (full k) y → x ≤ y))
-  sheet-least-root x v = (
+  -- x is the cost of a sender for the set w, and no sender's is less
+  pub sheet-least-root : (w x v : ℕ)
+      → LeastRoot G w x v ↔ ((v < n) × T (isSender records v) × Costs G v w x
+      × ((u y : ℕ) → u < n → T (isSender records u) → Costs G u w y → x ≤ y))
+  sheet-least-root w x v = (
     (λ r. (r .node, sender-of v (r .may-root), r .costs, λ u y on sender costs. r .least u y on (may-of u on sender) costs)),
     (λ (node, sender, costs, least). record {
       node = node;

@@ -2,7 +2,7 @@
 -- number. A `&[u16]` is Copy, so that what it owns is had twice: one copy goes to the callee, the other is kept for the exit. All that the proof
 -- knows of `best_sender_in` is that it meets its contract.
 -- Assumes nothing.
-use mathlib.Core.Path.{refl}
+use mathlib.Core.Path.{_≡_, refl}
 use Prim.Native.Nat.{ℕ, _<_, _^_}
 use mathlib.Core.List.{List, [], _∷_}
 use lib.Dec.{T as Holds}
@@ -40,7 +40,7 @@ use denote.Triple.Walked.{says, Stays, stay-none, stay-none-slice, walkOf, goes-
 use denote.Exit.{yes}
 use denote.Triple.Clauses.{ensured, lasts}
 use Rattle.answer.specs.Stated.{statedEnquiry}
-use Rattle.questions.specs.Questions.{SenderAnswer}
+use Rattle.questions.specs.Questions.{senderAnswer}
 use Rattle.enquirer.specs.declared.Enquirer.{Enquirer}
 use Rattle.answer.specs.declared.Enquiry.{Enquiry}
 use Rattle.enquirer.proofs.Held.{Held, held, Owned, slice-of, OwnedSlice, OwnedEntries, lends}
@@ -68,7 +68,7 @@ module _ {M : Type 1} (𝓤 : URA M) (H : Heap 𝓤) (A : Atoms 𝓤) (mem : Mem
 module _ {M : Type 1} (𝓤 : URA M) (H : Heap 𝓤) (A : Atoms 𝓤) (W : Given 𝓤 H A) (mem : Memory → SProp 𝓤) (run : Routine → Fun 𝓤) (κ : Lft) (q : Share) (d : Enquirer) (t : RefT (List ℕ)) (w : ℕ) (okw : w < 2 ^ 32) where
   -- what the contract says of the result
   abbrev Says : Enquiry → Type 0
-  Says r = SenderAnswer (now (d .cells)) (now t) (d .n) (d .k) w (statedEnquiry r)
+  Says r = statedEnquiry r ≡ senderAnswer (now (d .cells)) (now t) (d .n) (d .k) w
 
   abbrev at : Vals best.signature (κ, tt)
   at = (held d ∷ [], (slice-of t ∷ [], (vint w32 w ∷ [], tt)))

@@ -1,7 +1,8 @@
--- `questions::sender_question::best_sender_in` meets its contract: the tests in their order, then the cheapest sender, where its cell is finite.
+-- `questions::sender_question::best_sender_in` meets its contract: the tests in their order, then the lowest of the cheapest senders, where its cell
+-- is finite.
 -- Assumes nothing.
 use Prim.Native.Nat.{ℕ, _*_, _^_, _≤_, _<_}
-use mathlib.Core.Path.{_≡_, refl, sym, _∙_, subst, transport⁻¹}
+use mathlib.Core.Path.{_≡_, sym, _∙_, subst}
 use mathlib.Core.Bool.{true}
 use native.Mathlib.Omega.{arith}
 use lib.ListN.{length}
@@ -9,11 +10,11 @@ use denote.Ref.{now}
 use borrow.Author.Needs.{needs}
 use borrow.Author.Tests.{not-true, not-false, leb-true, leb-false}
 use Rattle.limits.specs.Limits.{maxSubsets}
-use Rattle.answer.specs.Stated.{sender, noSender}
 use Rattle.landing_entries.specs.Entries.{isSenderAt}
 use Rattle.cost_table.specs.Cheapest.{columnIn}
-use Rattle.questions.specs.Questions.{inRange}
-use Rattle.questions.specs.laws.Tested.{Range, ranged, few-sets, sender-head, sender-short, sender-few, sender-set, sender-stands, sends-cheapest, sends-none}
+use Rattle.questions.specs.Questions.{inRange, bestSender, senderAnswer}
+use Rattle.questions.specs.laws.Tested.{Range, ranged, few-sets, sender-head, sender-short, sender-few, sender-set, sender-stands}
+use Rattle.questions.specs.laws.Best.{best-named, best-none}
 use Rattle.questions.proofs.sender_question.best_sender_in.Statement.{statement}
 use Rattle.questions.proofs.sender_question.best_sender_in.Tie as tie
 
@@ -39,9 +40,9 @@ in-range-requires c κs = search needs
 returns : tie.Need-returns
 returns c =
     let a = c .before .before .before .before .args in
-    transport⁻¹
-    (sender-head (now (a .cells)) (now (a .landings)) (a .n) (a .k) (a .w) _
-    (sym (c .before .in-range .ensures) ∙ not-true (c .before .in-range .result) (c .if1 .taken))) refl
+    sym
+    (sender-head (now (a .cells)) (now (a .landings)) (a .n) (a .k) (a .w)
+    (sym (c .before .in-range .ensures) ∙ not-true (c .before .in-range .result) (c .if1 .taken)))
 
 sets-for-requires : tie.Need-sets-for-requires
 sets-for-requires c κs = range c .terminals .1
@@ -54,22 +55,22 @@ is-long-requires c κs =
 returns-2 : tie.Need-returns-2
 returns-2 c =
     let a = c .before .before .before .before .before .before .before .args in
-    transport⁻¹
-    (sender-short (now (a .cells)) (now (a .landings)) (a .n) (a .k) (a .w) _ (in-range (c .before .before .before))
+    sym
+    (sender-short (now (a .cells)) (now (a .landings)) (a .n) (a .k) (a .w) (in-range (c .before .before .before))
     (subst (λ (x : ℕ). length (now (a .cells)) < a .n * x) (c .before .before .sets-for .ensures)
-    (leb-false _ _ (sym (c .before .is-long .ensures) ∙ not-true (c .before .is-long .result) (c .if2 .taken))))) refl
+    (leb-false _ _ (sym (c .before .is-long .ensures) ∙ not-true (c .before .is-long .result) (c .if2 .taken)))))
 
 returns-3 : tie.Need-returns-3
 returns-3 c =
     let a = c .before .before .before .before .before .before .before .before .args in
-    transport⁻¹ (sender-few (now (a .cells)) (now (a .landings)) (a .n) (a .k) (a .w) _ (in-range (c .before .before .before .before)) (long (c .before)) (c .if3 .taken)) refl
+    sym (sender-few (now (a .cells)) (now (a .landings)) (a .n) (a .k) (a .w) (in-range (c .before .before .before .before)) (long (c .before)) (c .if3 .taken))
 
 returns-4 : tie.Need-returns-4
 returns-4 c =
     let a = c .before .before .before .before .before .before .before .before .before .args in
-    transport⁻¹
-    (sender-set (now (a .cells)) (now (a .landings)) (a .n) (a .k) (a .w) _ (in-range (c .before .before .before .before .before)) (long (c .before .before)) (c .before .if3 .left)
-    (omega (arith, c .if4 .taken, c .before .before .before .before .sets-for .ensures))) refl
+    sym
+    (sender-set (now (a .cells)) (now (a .landings)) (a .n) (a .k) (a .w) (in-range (c .before .before .before .before .before)) (long (c .before .before)) (c .before .if3 .left)
+    (omega (arith, c .if4 .taken, c .before .before .before .before .sets-for .ensures)))
 
 cast-t23 : tie.Need-cast-t23
 cast-t23 c = omega (arith, few-sets _ _ (range (c .before .before .before .before .before)), small c)
@@ -89,19 +90,26 @@ sender-cell-requires : tie.Need-sender-cell-requires
 sender-cell-requires c κs =
     (range (c .before .before .before .before .before .before) .terminals .1, long (c .before .before .before), c .before .before .if3 .left, small (c .before), c .cheapest-sender .ensures .below)
 
+-- after all tests the answer is the best sender
+stands : (c : tie.Else4) → let a = c .before .before .before .before .before .before .before .before .before .args in
+    senderAnswer (now (a .cells)) (now (a .landings)) (a .n) (a .k) (a .w) ≡ bestSender (isSenderAt (now (a .landings))) (columnIn (now (a .cells)) (a .k) (a .w)) (a .n)
+stands c =
+    let a = c .before .before .before .before .before .before .before .before .before .args in
+    sender-stands (now (a .cells)) (now (a .landings)) (a .n) (a .k) (a .w) (in-range (c .before .before .before .before .before)) (long (c .before .before)) (c .before .if3 .left) (small c)
+
 returns-5 : tie.Need-returns-5
 returns-5 c =
     let a = c .before .before .before .before .before .before .before .before .before .before .before .before .args in
-    let stands = sender-stands (now (a .cells)) (now (a .landings)) (a .n) (a .k) (a .w) (sender _) (in-range (c .before .before .before .before .before .before .before .before)) (long (c .before .before .before .before .before)) (c .before .before .before .before .if3 .left) (small (c .before .before .before)) in
-    transport⁻¹ stands
-    (sends-cheapest (isSenderAt (now (a .landings))) (columnIn (now (a .cells)) (a .k) (a .w)) (a .n) _ (c .before .before .cheapest-sender .ensures) _ (c .before .sender-cell .ensures) (omega (arith, c .if5 .taken)))
+    sym
+    (stands (c .before .before .before)
+    ∙ best-named (isSenderAt (now (a .landings))) (columnIn (now (a .cells)) (a .k) (a .w)) (a .n) _ (c .before .before .cheapest-sender .ensures) _ (c .before .sender-cell .ensures) (omega (arith, c .if5 .taken)))
 
 returns-6 : tie.Need-returns-6
 returns-6 c =
     let a = c .before .before .before .before .before .before .before .before .before .before .before .before .args in
-    let stands = sender-stands (now (a .cells)) (now (a .landings)) (a .n) (a .k) (a .w) noSender (in-range (c .before .before .before .before .before .before .before .before)) (long (c .before .before .before .before .before)) (c .before .before .before .before .if3 .left) (small (c .before .before .before)) in
-    transport⁻¹ stands
-    (sends-none (isSenderAt (now (a .landings))) (columnIn (now (a .cells)) (a .k) (a .w)) (a .n) _ (c .before .before .cheapest-sender .ensures) _ (c .before .sender-cell .ensures) (omega (arith, c .if5 .left)))
+    sym
+    (stands (c .before .before .before)
+    ∙ best-none (isSenderAt (now (a .landings))) (columnIn (now (a .cells)) (a .k) (a .w)) (a .n) _ (c .before .before .cheapest-sender .ensures) _ (c .before .sender-cell .ensures) (omega (arith, c .if5 .left)))
 
 pub best-sender-in-spec : {M : Type 1} → statement M
 best-sender-in-spec =
