@@ -148,7 +148,7 @@ fn tried() -> Counts {
         ties: 6_494,
         no_plan: 11_636,
         unlicensed: 6_812,
-        senders: [199_952, 55_404],
+        senders: [55_404, 150_956, 48_996],
         lists: 5_998_720,
         files: 24_840_979,
         answers,
