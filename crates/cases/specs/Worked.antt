@@ -2,14 +2,15 @@
 -- The engine's answers to the sheets A to J and the plan reader's to the files of A, K and L, with what was lent as it is afterwards, by
 -- computation. None of these sheets has an `SR`, so each of their landing entries has the flag, 1,024. The same of the sheets M to Q, which name
 -- senders (document 02, W-201), and of files whose root is no sender; and the index of the legs (W-202), of the sheet R and of tables that are too short
--- for it.
+-- for it. And the best senders (W-203) over the tables that the engine leaves for sheets with ties and with sites that are no sender.
 -- Assumes nothing.
-use Prim.Native.Nat.{ℕ}
+use Prim.Native.Nat.{ℕ, _^_}
 use mathlib.Core.Path.{_≡_, refl}
 use mathlib.Core.Option.{Option, none, some}
-use mathlib.Core.List.{List, [], _∷_}
+use mathlib.Core.List.{List, [], _∷_, map}
 use lib.ListN.{length}
-use Rattle.answer.specs.Stated.{plan, refused, ofSheet, ofTables, ofSearch, ofPlanFile}
+use Rattle.lists.specs.Numbers.{numbers}
+use Rattle.answer.specs.Stated.{Stated, plan, sender, noSender, refused, ofSheet, ofTables, ofSearch, ofPlanFile}
 use Rattle.sheet.specs.Verdict.{Verdict, good, bad, verdict, readFor}
 use Rattle.sheet.specs.Worked.{sheetA, sheetB, sheetC, sheetD, sheetE, sheetF, sheetG, sheetH, sheetI, sheetJ, sheetM, sheetN, sheetO, sheetP, sheetQ, sheetR}
 use Rattle.lent_tables.specs.SheetTables.{sheetTables}
@@ -23,6 +24,7 @@ use Rattle.plan_reader.specs.Reader.{readingOf}
 use Rattle.cases.specs.Files.{planA, planK, planL, missed}
 use Rattle.best_plan.specs.Plan.{Plan, planOf}
 use Rattle.engine.specs.Engine.{planningOf}
+use Rattle.questions.specs.Questions.{senderAnswer}
 
 -- ---- what is lent
 
@@ -371,3 +373,27 @@ pub index-settled :
     ≡ indexTables (0 ∷ 1 ∷ 3 ∷ 2 ∷ 4 ∷ []) (0 ∷ 0 ∷ 1 ∷ 3 ∷ 5 ∷ []))
 unfolding verdict readFor loaded planOf
 index-settled = (refl, refl, refl, refl, refl)
+
+-- ---- best senders
+
+-- the best sender of each subset by these tables, for n sites and k stations
+abbrev bestIn : (n k : ℕ) → EngineTables → List Stated
+bestIn n k t = map (senderAnswer (t .cells) (t .tables .landings) n k) (numbers 0 (2 ^ k))
+
+-- over the tables that the engine leaves
+pub best-settled :
+    -- A: every site is a sender, so that the lowest of all is that of the empty subset
+    (bestIn 4 3 (planningOf sheetA lent .after) ≡ sender 0 ∷ sender 2 ∷ sender 3 ∷ sender 1 ∷ sender 0 ∷ sender 0 ∷ sender 0 ∷ sender 0 ∷ [])
+    -- C: station 1 is heard at the sites 1 and 2
+    × (bestIn 3 2 (planningOf sheetC lent .after) ≡ sender 0 ∷ sender 0 ∷ sender 1 ∷ sender 0 ∷ [])
+    -- D: both sites cost 7 for both stations; E: neither reaches both
+    × (bestIn 2 2 (planningOf sheetD lent .after) ≡ sender 0 ∷ sender 0 ∷ sender 1 ∷ sender 0 ∷ [])
+    × (bestIn 2 2 (planningOf sheetE lent .after) ≡ sender 0 ∷ sender 0 ∷ sender 1 ∷ noSender ∷ [])
+    -- M: site 1 is the only sender, and does not reach station 2
+    × (bestIn 4 3 (planningOf sheetM lent .after) ≡ sender 1 ∷ sender 1 ∷ sender 1 ∷ sender 1 ∷ noSender ∷ noSender ∷ noSender ∷ noSender ∷ [])
+    -- O: the senders 1 and 2 cost the same, and site 0, which is no sender, costs less
+    × (bestIn 4 2 (planningOf sheetO lent .after) ≡ sender 1 ∷ sender 1 ∷ sender 1 ∷ sender 1 ∷ [])
+    -- Q: D with site 1 as its only sender
+    × (bestIn 2 2 (planningOf sheetQ lent .after) ≡ sender 1 ∷ sender 1 ∷ sender 1 ∷ sender 1 ∷ [])
+unfolding verdict readFor loaded planOf
+best-settled = (refl, refl, refl, refl, refl, refl, refl)

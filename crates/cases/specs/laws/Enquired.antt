@@ -7,6 +7,7 @@ use Prim.Native.Nat.{ℕ, _*_, _^_, _≤_, _<_}
 use mathlib.Core.Path.{_≡_, refl, sym, ap, _∙_, subst}
 use mathlib.Core.Logic.{_⊎_, inl, inr, _↔_}
 use mathlib.Core.Bool.{Bool, _&&_}
+use mathlib.Core.Option.{Option·none-ne-some}
 use mathlib.Core.List.{List}
 use native.Mathlib.Omega.{arith}
 use borrow.Author.Tests.{lt-ltb}
@@ -53,7 +54,7 @@ use Rattle.engine.specs.laws.PointTwo.{point-two}
 use Rattle.plan_reader.specs.Reader.{readingOf}
 use Rattle.questions.specs.Questions.{named, bestSender, senderAnswer}
 use Rattle.questions.specs.laws.Tested.{in-limits, cell-stands, sender-stands}
-use Rattle.questions.specs.laws.Best.{Named, Unnamed, answers}
+use Rattle.questions.specs.laws.Best.{siteIn, Named, Unnamed, answers}
 use Rattle.cases.specs.Meaning.{Finished, CellMeans, least-total, no-total, SenderMeans, lowest-best, none-serves, MeansLeast}
 
 -- ---- of a cost table
@@ -107,14 +108,6 @@ module _ (G : Graph) (room : Room G noCost) (free : (v : ℕ) → G .charge v �
 
 -- ---- the meaning of a best sender
 
--- an answer that names a site
-abbrev IsSite : Stated → Type 0
-IsSite (sender v) = Unit {0}
-IsSite noSender = ⊥
-IsSite (plan root cost count) = ⊥
-IsSite (cell cost) = ⊥
-IsSite (refused family number place) = ⊥
-
 -- a sender that is meant is the root of a subtree
 served : (G : Graph) (w v x : ℕ) → Lowest (LeastRoot G w x) v → ((u : ℕ) → T (G .mayRoot u) → NoSubtree G u w) → ⊥
 served G w v x low none =
@@ -130,10 +123,10 @@ one-answer G w (none-serves _) (none-serves _) = refl
 
 -- the answer is "none" exactly where no sender is the root of a subtree that holds a landing of each station of w
 pub none-exactly : (G : Graph) (w : ℕ) {s : Stated} → SenderMeans G w s → (s ≡ noSender) ↔ ((u : ℕ) → T (G .mayRoot u) → NoSubtree G u w)
-none-exactly G w means = ((λ e. none-of (subst (SenderMeans G w) e means) refl), (λ none. one-answer G w means (none-serves none)))
+none-exactly G w means = (none-of means, (λ none. one-answer G w means (none-serves none)))
   where
     none-of : {s : Stated} → SenderMeans G w s → s ≡ noSender → (u : ℕ) → T (G .mayRoot u) → NoSubtree G u w
-    none-of (lowest-best v x low) e = absurd (subst IsSite e tt)
+    none-of (lowest-best v x low) e = absurd (Option·none-ne-some v (ap siteIn (sym e)))
     none-of (none-serves none) e = none
 
 -- ---- of the tables that the engine leaves

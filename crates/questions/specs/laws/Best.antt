@@ -18,7 +18,7 @@ use Rattle.cost_table.specs.laws.Senders.{finite-sender, lowest-sender, no-send
 use Rattle.questions.specs.Questions.{named, bestSender}
 
 -- the site that an answer names
-abbrev siteIn : Stated → Option ℕ
+abbrev pub siteIn : Stated → Option ℕ
 siteIn (sender v) = some v
 siteIn noSender = none
 siteIn (plan root cost count) = none
