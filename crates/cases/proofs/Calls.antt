@@ -1,7 +1,7 @@
 -- The theorem of specs/laws/Enquired.antt, of calls: where a call of `plan_sheet` has planned the sheet, or answered 12 or 13, calls of
 -- `enquirer::cell` and `enquirer::best_sender` over the cells that it left, the second with the landing entries that it left as well, with the
 -- sheet's n and k, give the least total and the lowest of the senders that attain it. Of each call only what its contract promises is used
--- (`Learnt`, which the checker makes of the `ensures` for callers).
+-- (`Learnt`, which the checker makes of the `ensures` for callers). After a call that gives a plan, the best sender of all stations is its root.
 -- Assumes nothing.
 use Prim.Native.Nat.{ℕ, _^_, _<_}
 use mathlib.Core.Path.{_≡_, sym, ap, ap₂, _∙_, subst}
@@ -10,7 +10,8 @@ use contract.Lifetimes.{Lfts}
 use borrow.Fn.Kinds.{Dens, endedOf}
 use denote.Ref.{RefT, now}
 use denote.Triple.Clauses.{AtExit}
-use Rattle.answer.specs.Stated.{stated, statedEnquiry}
+use Rattle.subset.specs.Sets.{full}
+use Rattle.answer.specs.Stated.{plan, sender, stated, statedEnquiry}
 use Rattle.answer.specs.declared.Answer.{Answer}
 use Rattle.answer.specs.declared.Enquiry.{Enquiry}
 use Rattle.graph.specs.Graph.{Graph}
@@ -25,7 +26,8 @@ use Rattle.enquirer.proofs.cell.Reads as cell
 use Rattle.enquirer.proofs.best_sender.Kinds as sender-kinds
 use Rattle.enquirer.proofs.best_sender.Reads as best-sender
 use Rattle.cases.specs.Meaning.{Finished, CellMeans, SenderMeans, MeansLeast}
-use Rattle.cases.specs.laws.Enquired.{enquired}
+use Rattle.plan_reader.specs.Reader.{readingOf}
+use Rattle.cases.specs.laws.Enquired.{enquired, root-named}
 
 -- calls of the enquirer over these cells and landing entries, for n sites and k stations: each answer means the least total
 pub record CallsMean (n k : ℕ) (G : Graph) (left entries : List ℕ) : Type 0 where
@@ -53,3 +55,25 @@ pub enquired-calls : (κs : Lfts 10) (a : Dens κs plan-kinds.ps) (r : Answer) (
 enquired-calls κs a r e learnt bytes finished =
     let g = enquired (now (a .0)) bytes _ _ (stated r) (learnt .1 .0) finished in
     record { n = g .n; k = g .k; records = g .records; good-sheet = g .good-sheet; holds = calls _ _ _ _ _ (g .holds) }
+
+-- a call of the enquirer over these cells and landing entries, for n sites and k stations, names this site as the best sender of all stations
+abbrev RootCall : (n k root : ℕ) (left entries : List ℕ) → Type 0
+RootCall n k root left entries =
+    (κs : Lfts 1) (cells landings : RefT (List ℕ)) → now cells ≡ left → now landings ≡ entries
+    → (r : Enquiry) (e : AtExit (endedOf 1 sender-kinds.ps sender-kinds.r) κs)
+    → best-sender.Learnt κs (cells, (landings, (n, (k, (full k, tt))))) r e → statedEnquiry r ≡ sender root
+
+-- after a call of the engine that gives a plan: it names the root
+pub root-calls : (κs : Lfts 10) (a : Dens κs plan-kinds.ps) (r : Answer) (e : AtExit (endedOf 10 plan-kinds.ps plan-kinds.r) κs)
+    → plan-sheet.Learnt κs a r e → Bytes (now (a .0)) → (root cost count : ℕ) → stated r ≡ plan root cost count
+    → GoodWith (now (a .0)) (λ n k records. RootCall n k root (now (e .1 .1 .1 .1 .1 .1 .1 .0)) (now (e .1 .1 .1 .1 .0)))
+root-calls κs a r e learnt bytes root cost count is =
+    let g = root-named (now (a .0)) bytes readingOf _ _ (stated r) (learnt .1 .0) (learnt .1 .1 .0) root cost count is in
+    record {
+      n = g .n;
+      k = g .k;
+      records = g .records;
+      good-sheet = g .good-sheet;
+      holds = λ κs cells landings same alike r e learnt.
+          learnt ∙ ap₂ (λ (x y : List ℕ). senderAnswer x y (g .n) (g .k) (full (g .k))) same alike ∙ g .holds;
+    }
