@@ -101,19 +101,19 @@ pub fn both(call: &Call, sheet: &[u8], tables: &Tables, answer: &[u64]) -> Resul
     }
 }
 
-/// Asks the library about a table and the reference about its own, which is to have the same entries, each with a copy of `answer`. Gives
-/// the number and `answer` where they agree, else the question and both in words.
+/// Asks the library about a table and the reference about its own, which is to have the same entries, each with a copy of `answer`. Where
+/// the numbers or the copies differ, the error has the question and both in words.
 pub fn both_enquire(
     table: CostTable,
     own: CostTable,
     question: Question,
     answer: &[u64],
-) -> Result<(u32, Vec<u64>), String> {
+) -> Result<(), String> {
     let (mut ours, mut theirs) = (answer.to_vec(), answer.to_vec());
     let number = uldhvamm::enquire(table, question, &mut ours);
     let due = reference::enquire(own, question, &mut theirs);
     if number == due && ours == theirs {
-        return Ok((number, ours));
+        return Ok(());
     }
     Err(format!(
         "{question:?}, {} sites, {} stations, {} cells {:?}, {} landing entries {:?}\nreturned {number} with {ours:?} for {answer:?}, \

@@ -57,7 +57,7 @@ impl Counts {
             false => self.add("sender: one"),
         }
         if (0..site).any(|v| cost(v) <= cost(site)) {
-            self.add("sender: a lower site is none");
+            self.add("sender: a lower site has no licence");
         }
     }
 
@@ -117,7 +117,7 @@ fn random_tables_are_enquired_alike() {
         "sender: none",
         "sender: one",
         "sender: tie",
-        "sender: a lower site is none",
+        "sender: a lower site has no licence",
     ];
     counts.require("random tables enquired", &aims, 1000);
 }
@@ -296,7 +296,7 @@ fn finished_tables_are_enquired_alike() {
         "sender: none",
         "sender: one",
         "sender: tie",
-        "sender: a lower site is none",
+        "sender: a lower site has no licence",
     ];
     counts.require("finished tables enquired", &aims, 200);
 }
