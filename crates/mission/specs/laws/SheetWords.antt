@@ -11,7 +11,6 @@ use native.Mathlib.Omega.{arith}
 use lib.Dec.{T, ltb, ltb→lt, lt→ltb}
 use Rattle.lists.specs.Sums.{sumBy}
 use Rattle.lists.specs.Tests.{and-left, and-right, and-both}
-use Rattle.subset.specs.Sets.{full}
 use Rattle.graph.specs.Graph.{Graph}
 use Rattle.graph.specs.Paths.{ReachesAll}
 use Rattle.graph.specs.Subtrees.{Subtree, CoversAll, total}
