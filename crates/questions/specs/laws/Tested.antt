@@ -1,11 +1,11 @@
 -- The answers by the tests that are made, one law each, and what the tests tell of the numbers.
 -- Assumes nothing.
 use Prim.Native.Nat.{ℕ, _*_, _^_, _≤_, _<_}
-use mathlib.Core.Path.{_≡_}
+use mathlib.Core.Path.{_≡_, sym, _∙_, subst}
 use mathlib.Core.Logic.{_↔_}
-use mathlib.Core.Bool.{true, false, _&&_}
+use mathlib.Core.Bool.{Bool, true, false, _&&_}
 use mathlib.Core.List.{List}
-use borrow.Author.Tests.{lt-ltb, le-ltb, le-leb, lt-leb, leb-true}
+use borrow.Author.Tests.{lt-ltb, le-ltb, le-leb, lt-leb, leb-true, leb-false}
 use lib.Dec.{leb}
 use lib.ListN.{length}
 use lib.Pow.{pow-mono}
@@ -42,6 +42,18 @@ range-iff n k = (ranged n k, in-limits n k)
 -- there are at most 1,024 sets
 pub few-sets : (n k : ℕ) → Range n k → 2 ^ k ≤ maxSubsets
 few-sets n k r = pow-mono {j = maxTerminals} (r .terminals .1)
+
+-- with the number of the sets: the limits of a table, and what b, the test of its length, tells
+module _ (n k sets : ℕ) (all : sets ≡ 2 ^ k) where
+  pub table-limits : Range n k → (n ≤ maxNodes) × (sets ≤ maxSubsets)
+  table-limits r = (r .nodes .1, subst (λ (x : ℕ). x ≤ maxSubsets) (sym all) (few-sets n k r))
+
+  module _ (cells : ℕ) (b : Bool) (tested : b ≡ leb (n * sets) cells) where
+    pub table-long : b ≡ true → n * 2 ^ k ≤ cells
+    table-long passed = subst (λ (x : ℕ). n * x ≤ cells) all (leb-true _ _ (sym tested ∙ passed))
+
+    pub table-short : b ≡ false → cells < n * 2 ^ k
+    table-short failed = subst (λ (x : ℕ). cells < n * x) all (leb-false _ _ (sym tested ∙ failed))
 
 -- ---- the cell
 

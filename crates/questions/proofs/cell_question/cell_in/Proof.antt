@@ -1,18 +1,17 @@
 -- `questions::cell_question::cell_in` meets its contract: the tests in their order, then the cell, which lies in the table.
 -- Assumes nothing.
-use Prim.Native.Nat.{ℕ, _*_, _^_, _≤_, _<_}
-use mathlib.Core.Path.{_≡_, sym, ap, _∙_, subst}
+use Prim.Native.Nat.{_*_, _^_, _≤_, _<_}
+use mathlib.Core.Path.{_≡_, sym, ap, _∙_}
 use mathlib.Core.Bool.{true}
 use native.Mathlib.Omega.{arith}
 use lib.ListN.{length}
 use denote.Ref.{now}
 use borrow.Author.Needs.{needs}
-use borrow.Author.Tests.{not-true, not-false, leb-true, leb-false}
-use Rattle.limits.specs.Limits.{maxSubsets}
+use borrow.Author.Tests.{not-true, not-false}
 use Rattle.answer.specs.Stated.{cell}
 use Rattle.cost_table.specs.laws.Rows.{place-lt}
 use Rattle.questions.specs.Questions.{inRange}
-use Rattle.questions.specs.laws.Tested.{Range, ranged, few-sets, cell-head, cell-short, cell-site, cell-set, cell-stands}
+use Rattle.questions.specs.laws.Tested.{Range, ranged, few-sets, table-limits, table-long, table-short, cell-head, cell-short, cell-site, cell-set, cell-stands}
 use Rattle.questions.proofs.cell_question.cell_in.Statement.{statement}
 use Rattle.questions.proofs.cell_question.cell_in.Tie as tie
 
@@ -24,10 +23,7 @@ range : (c : tie.Else1) → let a = c .before .before .before .args in Range (a 
 range c = ranged _ _ (in-range c)
 
 long : (c : tie.Else2) → let a = c .before .before .before .before .before .before .args in a .n * 2 ^ a .k ≤ length (now (a .cells))
-long c =
-    let a = c .before .before .before .before .before .before .args in
-    subst (λ (x : ℕ). a .n * x ≤ length (now (a .cells))) (c .before .before .sets-for .ensures)
-    (leb-true _ _ (sym (c .before .is-long .ensures) ∙ not-false (c .before .is-long .result) (c .if2 .left)))
+long c = table-long _ _ _ (c .before .before .sets-for .ensures) _ _ (c .before .is-long .ensures) (not-false (c .before .is-long .result) (c .if2 .left))
 
 on : (c : tie.Else3) → let a = c .before .before .before .before .before .before .before .args in a .v < a .n
 on c = omega (arith, c .if3 .left)
@@ -48,16 +44,13 @@ sets-for-requires : tie.Need-sets-for-requires
 sets-for-requires c κs = range c .terminals .1
 
 is-long-requires : tie.Need-is-long-requires
-is-long-requires c κs =
-    let r = range (c .before) in
-    (r .nodes .1, subst (λ (x : ℕ). x ≤ maxSubsets) (sym (c .sets-for .ensures)) (few-sets _ _ r))
+is-long-requires c κs = table-limits _ _ _ (c .sets-for .ensures) (range (c .before))
 
 returns-2 : tie.Need-returns-2
 returns-2 c =
     let a = c .before .before .before .before .before .before .args in
     sym (cell-short (now (a .cells)) (a .n) (a .k) (a .v) (a .w) (in-range (c .before .before .before))
-    (subst (λ (x : ℕ). length (now (a .cells)) < a .n * x) (c .before .before .sets-for .ensures)
-    (leb-false _ _ (sym (c .before .is-long .ensures) ∙ not-true (c .before .is-long .result) (c .if2 .taken)))))
+    (table-short _ _ _ (c .before .before .sets-for .ensures) _ _ (c .before .is-long .ensures) (not-true (c .before .is-long .result) (c .if2 .taken))))
 
 returns-3 : tie.Need-returns-3
 returns-3 c =

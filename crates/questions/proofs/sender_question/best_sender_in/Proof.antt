@@ -1,19 +1,18 @@
 -- `questions::sender_question::best_sender_in` meets its contract: the tests in their order, then the lowest of the cheapest senders, where its cell
 -- is finite.
 -- Assumes nothing.
-use Prim.Native.Nat.{ℕ, _*_, _^_, _≤_, _<_}
-use mathlib.Core.Path.{_≡_, sym, _∙_, subst}
+use Prim.Native.Nat.{_*_, _^_, _≤_, _<_}
+use mathlib.Core.Path.{_≡_, sym, _∙_}
 use mathlib.Core.Bool.{true}
 use native.Mathlib.Omega.{arith}
 use lib.ListN.{length}
 use denote.Ref.{now}
 use borrow.Author.Needs.{needs}
-use borrow.Author.Tests.{not-true, not-false, leb-true, leb-false}
-use Rattle.limits.specs.Limits.{maxSubsets}
+use borrow.Author.Tests.{not-true, not-false}
 use Rattle.landing_entries.specs.Entries.{isSenderAt}
 use Rattle.cost_table.specs.Cheapest.{columnIn}
 use Rattle.questions.specs.Questions.{inRange, bestSender, senderAnswer}
-use Rattle.questions.specs.laws.Tested.{Range, ranged, few-sets, sender-head, sender-short, sender-few, sender-set, sender-stands}
+use Rattle.questions.specs.laws.Tested.{Range, ranged, few-sets, table-limits, table-long, table-short, sender-head, sender-short, sender-few, sender-set, sender-stands}
 use Rattle.questions.specs.laws.Best.{best-named, best-none}
 use Rattle.questions.proofs.sender_question.best_sender_in.Statement.{statement}
 use Rattle.questions.proofs.sender_question.best_sender_in.Tie as tie
@@ -26,10 +25,7 @@ range : (c : tie.Else1) → let a = c .before .before .before .before .args in R
 range c = ranged _ _ (in-range c)
 
 long : (c : tie.Else2) → let a = c .before .before .before .before .before .before .before .args in a .n * 2 ^ a .k ≤ length (now (a .cells))
-long c =
-    let a = c .before .before .before .before .before .before .before .args in
-    subst (λ (x : ℕ). a .n * x ≤ length (now (a .cells))) (c .before .before .sets-for .ensures)
-    (leb-true _ _ (sym (c .before .is-long .ensures) ∙ not-false (c .before .is-long .result) (c .if2 .left)))
+long c = table-long _ _ _ (c .before .before .sets-for .ensures) _ _ (c .before .is-long .ensures) (not-false (c .before .is-long .result) (c .if2 .left))
 
 small : (c : tie.Else4) → let a = c .before .before .before .before .before .before .before .before .before .args in a .w < 2 ^ a .k
 small c = omega (arith, c .if4 .left, c .before .before .before .before .sets-for .ensures)
@@ -48,17 +44,13 @@ sets-for-requires : tie.Need-sets-for-requires
 sets-for-requires c κs = range c .terminals .1
 
 is-long-requires : tie.Need-is-long-requires
-is-long-requires c κs =
-    let r = range (c .before) in
-    (r .nodes .1, subst (λ (x : ℕ). x ≤ maxSubsets) (sym (c .sets-for .ensures)) (few-sets _ _ r))
+is-long-requires c κs = table-limits _ _ _ (c .sets-for .ensures) (range (c .before))
 
 returns-2 : tie.Need-returns-2
 returns-2 c =
     let a = c .before .before .before .before .before .before .before .args in
-    sym
-    (sender-short (now (a .cells)) (now (a .landings)) (a .n) (a .k) (a .w) (in-range (c .before .before .before))
-    (subst (λ (x : ℕ). length (now (a .cells)) < a .n * x) (c .before .before .sets-for .ensures)
-    (leb-false _ _ (sym (c .before .is-long .ensures) ∙ not-true (c .before .is-long .result) (c .if2 .taken)))))
+    sym (sender-short (now (a .cells)) (now (a .landings)) (a .n) (a .k) (a .w) (in-range (c .before .before .before))
+    (table-short _ _ _ (c .before .before .sets-for .ensures) _ _ (c .before .is-long .ensures) (not-true (c .before .is-long .result) (c .if2 .taken))))
 
 returns-3 : tie.Need-returns-3
 returns-3 c =
