@@ -1,0 +1,4 @@
+-- the parts of one price, and the shares of a plan
+pub mod Parts
+-- where nothing is unassigned
+pub mod Assigned
