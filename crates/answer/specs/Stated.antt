@@ -16,14 +16,18 @@ use Rattle.answer.specs.declared.Answer.{Answer}
 use Rattle.answer.specs.declared.Answer.the-variants.{Plan, Refused}
 use Rattle.answer.specs.declared.Enquiry.{Enquiry}
 use Rattle.answer.specs.declared.Enquiry.the-variants.{Cell, Sender, NoSender, Refused as RefusedEnquiry}
+use Rattle.answer.specs.declared.Sharing.{Sharing}
+use Rattle.answer.specs.declared.Sharing.the-variants.{Shared, Refused as RefusedSharing}
 
 -- what caused a refusal
 pub data Family : Type 0 where
   ofSheet ofTables ofSearch ofPlanFile : Family
 
--- what is returned: a plan's or an accepted file's root, total and leg count; a cell; a best sender; "none"; or a refusal
+-- what is returned: a plan's or an accepted file's root, total and leg count; with shares (document 02, W-204) the same and the unassigned sum; a
+-- cell; a best sender; "none"; or a refusal
 pub data Stated : Type 0 where
   plan : (root total arcs : ℕ) → Stated
+  shared : (root total arcs unassigned : ℕ) → Stated
   cell : ℕ → Stated
   sender : ℕ → Stated
   noSender : Stated
@@ -86,3 +90,8 @@ statedEnquiry (Cell cost) = cell cost
 statedEnquiry (Sender node) = sender node
 statedEnquiry NoSender = noSender
 statedEnquiry (RefusedEnquiry refusal) = statedRefusal refusal
+
+-- the answer to a request for shares
+abbrev pub statedSharing : Sharing → Stated
+statedSharing (Shared root total arcs unassigned) = shared root total arcs unassigned
+statedSharing (RefusedSharing refusal) = statedRefusal refusal

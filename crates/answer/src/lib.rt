@@ -1,4 +1,4 @@
-// What is sent back: an answer of the engine or the plan reader, an answer of the enquirer, and the refusals that both hold.
+// What is sent back: an answer of the engine or the plan reader, an answer of the enquirer, an answer with shares, and the refusals that they hold.
 // A refusal says first whether the sheet, the tables, the search or the plan file caused it.
 ghost use mathlib.Core.Path.{_≡_};
 ghost use Rattle.answer.specs.Stated.{refused, ofSheet, ofTables, ofSearch, ofPlanFile, familyOf, statedRefusal};
@@ -60,6 +60,17 @@ pub enum Enquiry {
     Cell(u64),
     Sender(u16),
     NoSender,
+    Refused(Refusal),
+}
+
+// The answer to a request for shares: the acceptance of the plan file, with the sum that no station pays; or a refusal.
+pub enum Sharing {
+    Shared {
+        root: u16,
+        total: u64,
+        arcs: u16,
+        unassigned: u64,
+    },
     Refused(Refusal),
 }
 

@@ -11,7 +11,7 @@ use mathlib.Core.List.{List}
 use lib.Dec.{T}
 use Rattle.limits.specs.Limits.{noCost}
 use Rattle.limits.specs.Refusals.{noPlan, shortBuffer}
-use Rattle.answer.specs.Stated.{Stated, plan, cell, sender, noSender, refused}
+use Rattle.answer.specs.Stated.{Stated, plan, shared, cell, sender, noSender, refused}
 use Rattle.graph.specs.Graph.{Graph}
 use Rattle.graph.specs.LeastTotals.{NoSubtree, Least}
 use Rattle.questions.specs.Questions.{cellAnswer, senderAnswer}
@@ -24,6 +24,7 @@ Finished (refused family number place) = (number ≡ noPlan) ⊎ (number ≡ sho
 Finished (cell cost) = ⊥
 Finished (sender node) = ⊥
 Finished noSender = ⊥
+Finished (shared root cost count rest) = ⊥
 
 -- the answer is the least total of v and w, which is no "none"; or it is "none", and there is no directed subtree with root v that holds a
 -- landing of each station of w

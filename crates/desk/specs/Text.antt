@@ -9,7 +9,7 @@ use lib.Dec.{leb, ltb}
 use lib.ListN.{length}
 use Rattle.limits.specs.Refusals.{noPlan}
 use Rattle.lists.specs.Joined.{joined}
-use Rattle.answer.specs.Stated.{Stated, plan, cell, sender, noSender, refused, ofSearch}
+use Rattle.answer.specs.Stated.{Stated, plan, shared, cell, sender, noSender, refused, ofSearch}
 use Rattle.graph.specs.Graph.{Graph}
 use Rattle.sheet.specs.Verdict.{verdict}
 use Rattle.opener.specs.Opening.{byVerdict, byOpening}
@@ -33,6 +33,7 @@ refusalText (plan root cost count) = []
 refusalText (cell cost) = []
 refusalText (sender node) = []
 refusalText noSender = []
+refusalText (shared root cost count rest) = []
 
 -- the plan of a graph, or 12
 abbrev pub planText : Graph → Option Plan → List ℕ

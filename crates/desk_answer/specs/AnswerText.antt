@@ -4,7 +4,7 @@ use Prim.Native.Nat.{ℕ, _+_, _*_}
 use mathlib.Core.List.{List, [], _++_}
 use lib.ListN.{getD}
 use Rattle.lists.specs.Joined.{joined}
-use Rattle.answer.specs.Stated.{Stated, plan, cell, sender, noSender, refused}
+use Rattle.answer.specs.Stated.{Stated, plan, shared, cell, sender, noSender, refused}
 use Rattle.planfile.specs.Format.{arcsTo}
 use Rattle.desk_lines.specs.Lines.{refusalLine, firstLine, arcLine}
 
@@ -20,6 +20,7 @@ answerText (refused family number place) starts ends weights buffer = refusalLin
 answerText (cell cost) starts ends weights buffer = []
 answerText (sender node) starts ends weights buffer = []
 answerText noSender starts ends weights buffer = []
+answerText (shared root cost count rest) starts ends weights buffer = []
 
 -- how many legs are listed
 abbrev pub listedLegs : Stated → ℕ
@@ -28,6 +29,7 @@ listedLegs (refused family number place) = 0
 listedLegs (cell cost) = 0
 listedLegs (sender node) = 0
 listedLegs noSender = 0
+listedLegs (shared root cost count rest) = 0
 
 -- no text that lists so many legs has more bytes
 abbrev pub mostBytes : ℕ → ℕ

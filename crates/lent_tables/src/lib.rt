@@ -4,7 +4,7 @@ use subset::sets_of;
 ghost use mathlib.Core.Path.{_≡_};
 ghost use Prim.Native.Nat.{_≤_};
 ghost use Rattle.limits.specs.Limits.{maxTerminals};
-ghost use Rattle.lent_tables.specs.Lengths.{isEnough, furtherPass, lengthsPass, marksOnly, searchLengths};
+ghost use Rattle.lent_tables.specs.Lengths.{isEnough, furtherPass, lengthsPass, marksOnly, shareLengths, searchLengths};
 
 // The length of a further table, one that is not loaded with the sheet: its number of entries, where it is needed.
 pub enum TableLength {
@@ -12,12 +12,13 @@ pub enum TableLength {
     NotNeeded,
 }
 
-// The lengths of all further tables: leg numbers by end (one entry a leg), starting places (n + 1), cells (n times 2^k) and marks (n).
+// The lengths of all further tables: leg numbers by end (one entry a leg), starting places (n + 1), cells (n times 2^k), marks (n) and shares (k).
 pub struct FurtherLengths {
     pub by_end: TableLength,
     pub places: TableLength,
     pub cells: TableLength,
     pub marks: TableLength,
+    pub shares: TableLength,
 }
 
 impl FurtherLengths {
@@ -27,6 +28,7 @@ impl FurtherLengths {
         places: TableLength::NotNeeded,
         cells: TableLength::NotNeeded,
         marks: TableLength::NotNeeded,
+        shares: TableLength::NotNeeded,
     };
 
     // The marks are needed.
@@ -38,10 +40,24 @@ impl FurtherLengths {
             places: TableLength::NotNeeded,
             cells: TableLength::NotNeeded,
             marks: TableLength::Entries(marks),
+            shares: TableLength::NotNeeded,
         }
     }
 
-    // All of them are needed: the tables of the search.
+    // The marks and the shares are needed.
+    pub fn of_shares(marks: usize, shares: usize) -> FurtherLengths
+        ensures { λ r. ⌜ r ≡ shareLengths marks shares ⌝ }
+    {
+        FurtherLengths {
+            by_end: TableLength::NotNeeded,
+            places: TableLength::NotNeeded,
+            cells: TableLength::NotNeeded,
+            marks: TableLength::Entries(marks),
+            shares: TableLength::Entries(shares),
+        }
+    }
+
+    // The tables of the search are needed.
     pub fn of_search(by_end: usize, places: usize, cells: usize, marks: usize) -> FurtherLengths
         ensures { λ r. ⌜ r ≡ searchLengths «by_end» places cells marks ⌝ }
     {
@@ -50,6 +66,7 @@ impl FurtherLengths {
             places: TableLength::Entries(places),
             cells: TableLength::Entries(cells),
             marks: TableLength::Entries(marks),
+            shares: TableLength::NotNeeded,
         }
     }
 }
@@ -83,7 +100,11 @@ fn further_enough(n: u16, k: u8, arcs: u16, further: FurtherLengths) -> bool
         return false;
     }
     let marks = further.marks;
-    is_enough(node_count, marks)
+    if !is_enough(node_count, marks) {
+        return false;
+    }
+    let shares = further.shares;
+    is_enough(k as usize, shares)
 }
 
 // Whether all tables of these lengths are.

@@ -11,7 +11,7 @@ use lib.ListN.{length, getD, replicate}
 use Rattle.limits.specs.Limits.{noCost}
 use Rattle.limits.specs.Refusals.{shortSheet, unheard, shortTables, noPlan, shortBuffer, cutPlan, unknownNumber, noTree, notASender}
 use Rattle.lists.specs.Over.{over}
-use Rattle.answer.specs.Stated.{Family, ofSheet, ofTables, ofSearch, ofPlanFile, Stated, plan, cell, sender, noSender, refused, statedSheet}
+use Rattle.answer.specs.Stated.{Family, ofSheet, ofTables, ofSearch, ofPlanFile, Stated, plan, shared, cell, sender, noSender, refused, statedSheet}
 use Rattle.answer.specs.declared.SheetFault.{SheetFault}
 use Rattle.graph.specs.Paths.{DirectedPath}
 use Rattle.records.specs.Arcs.{arcs}
@@ -42,6 +42,7 @@ PlanOrRefusal May (refused family number place) = May number × (family ≡ caus
 PlanOrRefusal May (cell cost) = ⊥
 PlanOrRefusal May (sender node) = ⊥
 PlanOrRefusal May noSender = ⊥
+PlanOrRefusal May (shared root cost count rest) = ⊥
 
 -- the engine's numbers: 1 to 13
 abbrev pub EngineNumber : ℕ → Type 0

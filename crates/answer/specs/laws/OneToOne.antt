@@ -16,7 +16,9 @@ use Rattle.answer.specs.declared.Answer.{Answer}
 use Rattle.answer.specs.declared.Answer.the-variants.{Plan, Refused}
 use Rattle.answer.specs.declared.Enquiry.{Enquiry}
 use Rattle.answer.specs.declared.Enquiry.the-variants.{Cell, Sender, NoSender, Refused as RefusedEnquiry}
-use Rattle.answer.specs.Stated.{Stated, plan, cell, sender, noSender, refused, statedRefusal, stated, statedEnquiry}
+use Rattle.answer.specs.declared.Sharing.{Sharing}
+use Rattle.answer.specs.declared.Sharing.the-variants.{Shared, Refused as RefusedSharing}
+use Rattle.answer.specs.Stated.{Stated, plan, shared, cell, sender, noSender, refused, statedRefusal, stated, statedEnquiry, statedSharing}
 
 -- the refusal with a number and a place
 abbrev refusalAt : ℕ → ℕ → Refusal
@@ -43,9 +45,10 @@ refusalAt number place =
     PlanFile NotASender)))))))))))))))))))
 
 -- a value found from what is stated, where it is known for each kind of answer
-module _ {A : Type 0} (onPlan : ℕ → ℕ → ℕ → A) (onCell onSender : ℕ → A) (onNone : A) (onRefusal : Refusal → A) where
+module _ {A : Type 0} (onPlan : ℕ → ℕ → ℕ → A) (onShared : ℕ → ℕ → ℕ → ℕ → A) (onCell onSender : ℕ → A) (onNone : A) (onRefusal : Refusal → A) where
   find : Stated → A
   find (plan root total arcs) = onPlan root total arcs
+  find (shared root total arcs unassigned) = onShared root total arcs unassigned
   find (cell cost) = onCell cost
   find (sender node) = onSender node
   find noSender = onNone
@@ -79,39 +82,52 @@ anyRefusal : Refusal
 anyRefusal = Search NoPlan
 
 findRefusal : Stated → Refusal
-findRefusal = find (λ _ _ _. anyRefusal) (λ _. anyRefusal) (λ _. anyRefusal) anyRefusal (λ r. r)
+findRefusal = find (λ _ _ _. anyRefusal) (λ _ _ _ _. anyRefusal) (λ _. anyRefusal) (λ _. anyRefusal) anyRefusal (λ r. r)
 
 -- two refusals of which the same is stated are one refusal
 pub refusal-one-to-one : (a b : Refusal) → statedRefusal a ≡ statedRefusal b → a ≡ b
 unfolding findRefusal
 refusal-one-to-one a b same =
-    sym (find-refusal _ _ _ _ (λ r. r) a) ∙ ap findRefusal same ∙ find-refusal _ _ _ _ (λ r. r) b
+    sym (find-refusal _ _ _ _ _ (λ r. r) a) ∙ ap findRefusal same ∙ find-refusal _ _ _ _ _ (λ r. r) b
 
 findAnswer : Stated → Answer
-findAnswer = find Plan (λ _. Refused anyRefusal) (λ _. Refused anyRefusal) (Refused anyRefusal) Refused
+findAnswer = find Plan (λ _ _ _ _. Refused anyRefusal) (λ _. Refused anyRefusal) (λ _. Refused anyRefusal) (Refused anyRefusal) Refused
 
 answer-found : (a : Answer) → findAnswer (stated a) ≡ a
 unfolding findAnswer find
 answer-found (Plan root total arcs) = refl
-answer-found (Refused refusal) = find-refusal _ _ _ _ Refused refusal
+answer-found (Refused refusal) = find-refusal _ _ _ _ _ Refused refusal
 
 -- two answers of the engine or the plan reader of which the same is stated are one answer
 pub answer-one-to-one : (a b : Answer) → stated a ≡ stated b → a ≡ b
 answer-one-to-one a b same = sym (answer-found a) ∙ ap findAnswer same ∙ answer-found b
 
 findEnquiry : Stated → Enquiry
-findEnquiry = find (λ _ _ _. NoSender) Cell Sender NoSender RefusedEnquiry
+findEnquiry = find (λ _ _ _. NoSender) (λ _ _ _ _. NoSender) Cell Sender NoSender RefusedEnquiry
 
 enquiry-found : (a : Enquiry) → findEnquiry (statedEnquiry a) ≡ a
 unfolding findEnquiry find
 enquiry-found (Cell cost) = refl
 enquiry-found (Sender node) = refl
 enquiry-found NoSender = refl
-enquiry-found (RefusedEnquiry refusal) = find-refusal _ _ _ _ RefusedEnquiry refusal
+enquiry-found (RefusedEnquiry refusal) = find-refusal _ _ _ _ _ RefusedEnquiry refusal
 
 -- two answers of the enquirer of which the same is stated are one answer
 pub enquiry-one-to-one : (a b : Enquiry) → statedEnquiry a ≡ statedEnquiry b → a ≡ b
 enquiry-one-to-one a b same = sym (enquiry-found a) ∙ ap findEnquiry same ∙ enquiry-found b
+
+findSharing : Stated → Sharing
+findSharing =
+    find (λ _ _ _. RefusedSharing anyRefusal) Shared (λ _. RefusedSharing anyRefusal) (λ _. RefusedSharing anyRefusal) (RefusedSharing anyRefusal) RefusedSharing
+
+sharing-found : (a : Sharing) → findSharing (statedSharing a) ≡ a
+unfolding findSharing find
+sharing-found (Shared root total arcs unassigned) = refl
+sharing-found (RefusedSharing refusal) = find-refusal _ _ _ _ _ RefusedSharing refusal
+
+-- two answers with shares of which the same is stated are one answer
+pub sharing-one-to-one : (a b : Sharing) → statedSharing a ≡ statedSharing b → a ≡ b
+sharing-one-to-one a b same = sym (sharing-found a) ∙ ap findSharing same ∙ sharing-found b
 
 -- what is stated of a refusal is not what is stated of a plan
 pub refusal-no-plan : (refusal : Refusal) (root total arcs : ℕ) → statedRefusal refusal ≡ plan root total arcs → ⊥

@@ -16,7 +16,7 @@ use Rattle.lists.specs.Every.{every-at, every-imp}
 use Rattle.lists.specs.Joined.{joined, joined-every}
 use Rattle.lists.specs.Numbers.{getD-values}
 use Rattle.lists.specs.Over.{over, length-over}
-use Rattle.answer.specs.Stated.{Stated, plan, cell, sender, noSender, refused, ofTables, statedSheet}
+use Rattle.answer.specs.Stated.{Stated, plan, shared, cell, sender, noSender, refused, ofTables, statedSheet}
 use Rattle.answer.specs.laws.OneToOne.{refusal-no-plan}
 use Rattle.answer.specs.declared.Refusal.the-variants.{Sheet}
 use Rattle.answer.specs.declared.SheetFault.{SheetFault}
@@ -98,6 +98,7 @@ no-legs (refused family number place) never = omega arith
 no-legs (cell cost) never = omega arith
 no-legs (sender node) never = omega arith
 no-legs noSender never = omega arith
+no-legs (shared root cost count rest) never = omega arith
 
 -- ---- the desk's tables
 

@@ -4,7 +4,7 @@ use borrow.Author.Tests.{not-true, not-false}
 use mathlib.Core.Path.{sym, _∙_}
 use mathlib.Core.Bool.{true, false}
 use native.Mathlib.Omega.{arith}
-use Rattle.lent_tables.specs.laws.LengthLaws.{cells-fit, cells-test}
+use Rattle.lent_tables.specs.laws.LengthLaws.{last-decides, cells-fit, cells-test}
 use borrow.Author.Needs.{needs}
 use Rattle.lent_tables.proofs.further_enough.Statement.{statement}
 use Rattle.lent_tables.proofs.further_enough.Tie as tie
@@ -60,18 +60,38 @@ is-enough-requires-4 c κs = search needs
 
 returns-4 : tie.Need-returns-4
 returns-4 c =
-    let x = c .before .before in
+    let m = c .before in
+    let x = m .before .before in
     let s = x .before in
     let p = s .before .before in
     let e = p .before .before in
     let a = e .before .args in
     simp (
-      c .is-enough4 .ensures,
+      sym (m .is-enough4 .ensures) ∙ not-true (m .is-enough4 .result) (c .if4 .taken),
       cells-test (a .n) (a .k) (s .sets-of .result) (a .further .cells) (x .is-enough3 .result) true (s .sets-of .ensures) (x .is-enough3 .ensures)
-          (not-false (x .is-enough3 .result) (c .before .if3 .left)),
+          (not-false (x .is-enough3 .result) (m .before .if3 .left)),
       sym (p .is-enough2 .ensures) ∙ not-false (p .is-enough2 .result) (s .before .if2 .left),
       sym (e .is-enough .ensures) ∙ not-false (e .is-enough .result) (p .before .if1 .left),
     )
+
+is-enough-requires-5 : tie.Need-is-enough-requires-5
+is-enough-requires-5 c κs = search needs
+
+returns-5 : tie.Need-returns-5
+returns-5 c =
+    let m = c .before .before in
+    let x = m .before .before in
+    let s = x .before in
+    let p = s .before .before in
+    let e = p .before .before in
+    let a = e .before .args in
+    last-decides
+    (sym (e .is-enough .ensures) ∙ not-false (e .is-enough .result) (p .before .if1 .left))
+    (sym (p .is-enough2 .ensures) ∙ not-false (p .is-enough2 .result) (s .before .if2 .left))
+    (cells-test (a .n) (a .k) (s .sets-of .result) (a .further .cells) (x .is-enough3 .result) true (s .sets-of .ensures) (x .is-enough3 .ensures)
+    (not-false (x .is-enough3 .result) (m .before .if3 .left)))
+    (sym (m .is-enough4 .ensures) ∙ not-false (m .is-enough4 .result) (c .before .if4 .left))
+    (c .is-enough5 .ensures)
 
 pub further-enough-spec : {M : Type 1} → statement M
 further-enough-spec =
@@ -87,4 +107,6 @@ further-enough-spec =
     is-enough-requires-3
     returns-3
     is-enough-requires-4
-    returns-4)
+    returns-4
+    is-enough-requires-5
+    returns-5)

@@ -31,7 +31,9 @@ module _ (n k arcCount : ℕ) (f : FurtherLengths) where
       let a = isEnough arcCount (f .«by_end») in
       let b = isEnough (n + 1) (f .places) in
       let c = isEnough (n * 2 ^ k) (f .cells) in
-      let (before-marks, marks) = both-true (a && b && c) (isEnough n (f .marks)) e in
+      let d = isEnough n (f .marks) in
+      let (before-shares, shares) = both-true (a && b && c && d) (isEnough k (f .shares)) e in
+      let (before-marks, marks) = both-true (a && b && c) d before-shares in
       let (index, cells) = both-true (a && b) c before-marks in
       let (by-end, places) = both-true a b index in
       record {
@@ -39,12 +41,13 @@ module _ (n k arcCount : ℕ) (f : FurtherLengths) where
         places = enough-true (n + 1) (f .places) places;
         cells = enough-true (n * 2 ^ k) (f .cells) cells;
         marks = enough-true n (f .marks) marks;
+        shares = enough-true k (f .shares) shares;
       }
 
   further-long-passes : FurtherLong n k arcCount f → furtherPass n k arcCount f ≡ true
   further-long-passes l =
       λ i. true-enough arcCount (f .«by_end») (l .byEnd) i && true-enough (n + 1) (f .places) (l .places) i
-      && true-enough (n * 2 ^ k) (f .cells) (l .cells) i && true-enough n (f .marks) (l .marks) i
+      && true-enough (n * 2 ^ k) (f .cells) (l .cells) i && true-enough n (f .marks) (l .marks) i && true-enough k (f .shares) (l .shares) i
 
 module _ (n k arcCount : ℕ) (t : SheetTables) (f : FurtherLengths) where
   pub test-long : areLong n k arcCount t f ≡ true → AllLong n k arcCount t f
@@ -68,7 +71,11 @@ module _ (n k arcCount : ℕ) (t : SheetTables) (f : FurtherLengths) where
       λ i. le-leb _ _ (tables .starts) i && le-leb _ _ (tables .ends) i && le-leb _ _ (tables .weights) i && le-leb _ _ (tables .landings) i
       && further-long-passes n k arcCount f (l .further) i
 
--- ---- the number of cells, as code has it
+-- ---- the tests as code makes them
+
+-- where the other tests have passed, the last one decides
+pub last-decides : {a b c d e r : Bool} → a ≡ true → b ≡ true → c ≡ true → d ≡ true → r ≡ e → r ≡ (a && b && c && d && e)
+last-decides {e = e} p q s t last = last ∙ sym (λ i. p i && q i && s i && t i && e)
 
 -- n times the number of sets fits a number of 64 bits
 pub cells-fit : (n k size : ℕ) → n < 2 ^ 16 → k ≤ maxTerminals → size ≡ 2 ^ k → n * size < 2 ^ 64

@@ -7,7 +7,7 @@ use mathlib.Core.Path.{_≡_, refl, sym, ap, _∙_, subst}
 use mathlib.Core.List.{List}
 use native.Mathlib.Omega.{arith}
 use Rattle.limits.specs.Refusals.{shortSheet, strangeMark, badHead, noSuchSite, noSuchStation, loop, badPrice, tooManyLegs, afterTheEnd, unheard, shortTables}
-use Rattle.answer.specs.Stated.{Family, Stated, plan, cell, sender, noSender, refused, statedSheet}
+use Rattle.answer.specs.Stated.{Family, Stated, plan, shared, cell, sender, noSender, refused, statedSheet}
 use Rattle.answer.specs.declared.SheetFault.{SheetFault}
 use Rattle.answer.specs.declared.SheetFault.the-variants.{ShortSheet, StrangeMark, BadHead, NoSuchSite, NoSuchStation, Loop, BadPrice}
 use Rattle.answer.specs.declared.SheetFault.the-variants.{TooManyLegs, AfterTheEnd, Unheard}
@@ -27,6 +27,7 @@ numberIn (plan root cost count) = 0
 numberIn (cell cost) = 0
 numberIn (sender node) = 0
 numberIn noSender = 0
+numberIn (shared root cost count rest) = 0
 numberIn (refused family number place) = number
 
 -- one refusal has one number
@@ -39,6 +40,7 @@ IsPlanned (plan root cost count) = Unit {0}
 IsPlanned (cell cost) = ⊥
 IsPlanned (sender node) = ⊥
 IsPlanned noSender = ⊥
+IsPlanned (shared root cost count rest) = ⊥
 IsPlanned (refused family number place) = ⊥
 
 pub plan-not-refused : {root cost count : ℕ} {family : Family} {number place : ℕ} → plan root cost count ≡ refused family number place → ⊥
@@ -53,6 +55,7 @@ OfPlan P (plan root cost count) = P root cost count
 OfPlan P (cell cost) = Unit {0}
 OfPlan P (sender node) = Unit {0}
 OfPlan P noSender = Unit {0}
+OfPlan P (shared root cost count rest) = Unit {0}
 OfPlan P (refused family number place) = Unit {0}
 
 pub same-plan : (P : ℕ → ℕ → ℕ → Type 0) {root root' cost cost' count count' : ℕ} → plan root cost count ≡ plan root' cost' count'

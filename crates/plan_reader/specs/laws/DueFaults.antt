@@ -17,7 +17,7 @@ use Rattle.lists.specs.Find.{first, first-says}
 use Rattle.lists.specs.Listed.{listed-every}
 use Rattle.lists.specs.Tests.{true-fact, fact-true, false-not-fact, not-both}
 use Rattle.subset.specs.Sets.{full}
-use Rattle.answer.specs.Stated.{Stated, plan, cell, sender, noSender, refused, ofPlanFile, statedPlanFile}
+use Rattle.answer.specs.Stated.{Stated, plan, shared, cell, sender, noSender, refused, ofPlanFile, statedPlanFile}
 use Rattle.answer.specs.declared.PlanFault.{PlanFault}
 use Rattle.answer.specs.declared.PlanFault.the-variants.{CutPlan, BadPlan, UnknownNumber, NoTree, NotASender, StationMissed, FalseTotal}
 use Rattle.graph.specs.Graph.{Graph}
@@ -43,6 +43,7 @@ OfRefusal P (plan root cost count) = Unit {0}
 OfRefusal P (cell cost) = Unit {0}
 OfRefusal P (sender node) = Unit {0}
 OfRefusal P noSender = Unit {0}
+OfRefusal P (shared root cost count rest) = Unit {0}
 
 -- ---- a test and what it says
 

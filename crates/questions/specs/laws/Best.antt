@@ -12,7 +12,7 @@ use lib.Dec.{T, ltb, ltb→lt, nltb→le}
 use Rattle.limits.specs.Limits.{noCost}
 use Rattle.lists.specs.Tests.{by-fact, not-both}
 use Rattle.lists.specs.Cheapest.{lowestCheapest, LowestCheapest, found-cheapest, cheapest-found, none-found}
-use Rattle.answer.specs.Stated.{Stated, plan, cell, sender, noSender, refused}
+use Rattle.answer.specs.Stated.{Stated, plan, shared, cell, sender, noSender, refused}
 use Rattle.cost_table.specs.Cheapest.{ofSenders, LowestTo}
 use Rattle.cost_table.specs.laws.Senders.{finite-sender, lowest-sender, no-sender}
 use Rattle.questions.specs.Questions.{named, bestSender}
@@ -21,6 +21,7 @@ use Rattle.questions.specs.Questions.{named, bestSender}
 abbrev pub siteIn : Stated → Option ℕ
 siteIn (sender v) = some v
 siteIn noSender = none
+siteIn (shared root cost count rest) = none
 siteIn (plan root cost count) = none
 siteIn (cell cost) = none
 siteIn (refused family number place) = none
