@@ -3,7 +3,7 @@ ghost use mathlib.Core.Path.{_≡_};
 ghost use Prim.Native.Nat.{_^_, _≤_, _<_};
 ghost use lib.Count.{ones};
 ghost use Rattle.limits.specs.Limits.{maxTerminals};
-ghost use Rattle.subset.specs.Sets.{full, single, isPart, rest, union};
+ghost use Rattle.subset.specs.Sets.{full, single, has, isPart, rest, union};
 
 // A set of stations, as its number.
 pub struct Subset(pub u16);
@@ -33,6 +33,14 @@ impl Subset {
         ensures { λ r. ⌜ r ≡ ones (self .0) ⌝ }
     {
         u16::count_ones(self.0)
+    }
+
+    // Whether station i is in the set.
+    pub fn has(self, i: u8) -> bool
+        requires { ⌜ i < maxTerminals ⌝ }
+        ensures { λ r. ⌜ r ≡ has (self .0) i ⌝ }
+    {
+        (self.0 >> i) % 2 == 1
     }
 
     // Whether every station of the set is in w.
