@@ -1,3 +1,5 @@
+-- what is above a node in a subtree, arc by arc upward
+pub mod Climbing
 -- the parts of one price, and the shares of a plan
 pub mod Parts
 -- where nothing is unassigned
