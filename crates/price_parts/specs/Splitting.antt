@@ -3,13 +3,31 @@
 -- Assumes nothing.
 use Prim.Native.Nat.{ℕ, _+_, _^_, _≤_, _<_}
 use mathlib.Core.Path.{_≡_}
+use mathlib.Core.Bool.{cond}
 use mathlib.Core.List.{List}
-use lib.ListN.{length, getD}
+use lib.Dec.{ltb}
+use lib.ListN.{length, getD, set}
 use Rattle.limits.specs.Limits.{maxTerminals, noCost}
+use Rattle.lists.specs.Count.{bit}
 use Rattle.lists.specs.Sums.{sumTo}
 use Rattle.subset.specs.Sets.{has}
 use Rattle.planfile.specs.Format.{fileSize, listedArc}
 use Rattle.plan_shares.specs.Shares.{payersTo, partOf, unpaidOf}
+
+-- ---- one station's part
+
+-- what a payer pays of a price with this quotient and this remainder, where so many payers are lower stations
+abbrev pub payerPart : (quotient remainder lower : ℕ) → ℕ
+payerPart quotient remainder lower = quotient + bit (ltb lower remainder)
+
+-- what terminal i pays of it, where the set has the payers
+abbrev pub partIn : (payers quotient remainder lower i : ℕ) → ℕ
+partIn payers quotient remainder lower i = cond (has payers i) (payerPart quotient remainder lower) 0
+
+-- it is paid: added to terminal i's share; and how many payers there are up to terminal i
+pub record PaidAt (payers quotient remainder lower i : ℕ) (before after : List ℕ) (upto : ℕ) : Type 0 where
+  pub shares : after ≡ set before i (getD before i 0 + partIn payers quotient remainder lower i)
+  pub counted : upto ≡ bit (has payers i) + lower
 
 -- ---- one price
 
@@ -29,6 +47,21 @@ pub record SplitInto (price payers : ℕ) (before after : List ℕ) (rest : ℕ)
   pub size : length after ≡ length before
   pub paid : (i : ℕ) → i < length before → getD after i 0 ≡ getD before i 0 + paidBy (length before) payers price i
   pub unpaid : rest ≡ paidByNone (length before) payers price
+
+-- ---- one arc's weight
+
+-- arc e is in the tables, the payers are terminals that have shares, and each share has room for the weight
+pub record ArcReady (e : ℕ) (ends weights served shares : List ℕ) : Type 0 where
+  pub in-ends : e < length ends
+  pub in-weights : e < length weights
+  pub in-served : getD ends e 0 < length served
+  pub few : length shares ≤ maxTerminals
+  pub payers : getD served (getD ends e 0) 0 < 2 ^ length shares
+  pub room : RoomFor (getD weights e 0) shares
+
+-- its weight is split over the set that the table has for its end
+abbrev pub ArcSplit : (e : ℕ) → (ends weights served before after : List ℕ) → (rest : ℕ) → Type 0
+ArcSplit e ends weights served before after rest = SplitInto (getD weights e 0) (getD served (getD ends e 0) 0) before after rest
 
 -- ---- the listed arcs
 

@@ -5,7 +5,7 @@ use mathlib.Core.Path.{_≡_, refl, sym, ap, _∙_}
 use mathlib.Core.Bool.{cond}
 use native.Mathlib.Omega.{arith}
 use lib.Dec.{eqb}
-use Rattle.limits.specs.Refusals.{shortSheet, strangeMark, badHead, noSuchSite, noSuchStation, loop, badPrice, tooManyLegs, afterTheEnd, unheard, shortTables, noPlan, shortBuffer, cutPlan, badPlan, unknownNumber, noTree, stationMissed, falseTotal}
+use Rattle.limits.specs.Refusals.{shortSheet, strangeMark, badHead, noSuchSite, noSuchStation, loop, badPrice, tooManyLegs, afterTheEnd, unheard, shortTables, noPlan, shortBuffer, cutPlan, badPlan, unknownNumber, noTree, stationMissed, falseTotal, notASender}
 use Rattle.answer.specs.declared.SheetFault.the-variants.{ShortSheet, StrangeMark, BadHead, NoSuchSite, NoSuchStation, Loop, BadPrice, TooManyLegs, AfterTheEnd, Unheard}
 use Rattle.answer.specs.declared.TableFault.the-variants.{ShortTables, ShortBuffer}
 use Rattle.answer.specs.declared.SearchFault.the-variants.{NoPlan}
@@ -18,7 +18,7 @@ use Rattle.answer.specs.declared.Enquiry.{Enquiry}
 use Rattle.answer.specs.declared.Enquiry.the-variants.{Cell, Sender, NoSender, Refused as RefusedEnquiry}
 use Rattle.answer.specs.declared.Sharing.{Sharing}
 use Rattle.answer.specs.declared.Sharing.the-variants.{Shared, Refused as RefusedSharing}
-use Rattle.answer.specs.Stated.{Stated, plan, shared, cell, sender, noSender, refused, statedRefusal, stated, statedEnquiry, statedSharing}
+use Rattle.answer.specs.Stated.{Stated, plan, shared, cell, sender, noSender, refused, familyOf, statedRefusal, stated, statedEnquiry, statedSharing}
 
 -- the refusal with a number and a place
 abbrev refusalAt : ℕ → ℕ → Refusal
@@ -76,6 +76,29 @@ module _ {A : Type 0} (onPlan : ℕ → ℕ → ℕ → A) (onShared : ℕ → �
   find-refusal (PlanFile StationMissed) = refl
   find-refusal (PlanFile FalseTotal) = refl
   find-refusal (PlanFile NotASender) = refl
+
+-- what is stated of a refusal is its family, a number and a place
+pub refusal-stated : (refusal : Refusal) → (number : ℕ) × (place : ℕ) × (statedRefusal refusal ≡ refused (familyOf refusal) number place)
+refusal-stated (Sheet (ShortSheet place)) = (shortSheet, place, refl)
+refusal-stated (Sheet (StrangeMark place)) = (strangeMark, place, refl)
+refusal-stated (Sheet (BadHead place)) = (badHead, place, refl)
+refusal-stated (Sheet (NoSuchSite place)) = (noSuchSite, place, refl)
+refusal-stated (Sheet (NoSuchStation place)) = (noSuchStation, place, refl)
+refusal-stated (Sheet (Loop place)) = (loop, place, refl)
+refusal-stated (Sheet (BadPrice place)) = (badPrice, place, refl)
+refusal-stated (Sheet (TooManyLegs place)) = (tooManyLegs, place, refl)
+refusal-stated (Sheet (AfterTheEnd place)) = (afterTheEnd, place, refl)
+refusal-stated (Sheet (Unheard place)) = (unheard, place, refl)
+refusal-stated (Tables ShortTables) = (shortTables, 0, refl)
+refusal-stated (Tables ShortBuffer) = (shortBuffer, 0, refl)
+refusal-stated (Search NoPlan) = (noPlan, 0, refl)
+refusal-stated (PlanFile CutPlan) = (cutPlan, 0, refl)
+refusal-stated (PlanFile (BadPlan place)) = (badPlan, place, refl)
+refusal-stated (PlanFile (UnknownNumber place)) = (unknownNumber, place, refl)
+refusal-stated (PlanFile NoTree) = (noTree, 0, refl)
+refusal-stated (PlanFile StationMissed) = (stationMissed, 0, refl)
+refusal-stated (PlanFile FalseTotal) = (falseTotal, 0, refl)
+refusal-stated (PlanFile NotASender) = (notASender, 0, refl)
 
 -- any refusal, for the cases that do not arise
 anyRefusal : Refusal

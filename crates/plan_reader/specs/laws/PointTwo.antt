@@ -3,21 +3,20 @@
 -- total; and it accepts none without them.
 -- Assumes nothing.
 use Prim.Native.Nat.{ℕ, _<_}
-use mathlib.Core.Path.{_≡_, refl, sym, ap, _∙_, subst}
-use mathlib.Core.Option.{Option, none, some}
+use mathlib.Core.Path.{_≡_, sym, ap, _∙_, subst}
+use mathlib.Core.Option.{Option, none}
 use mathlib.Core.List.{List}
 use native.Mathlib.Omega.{arith}
-use borrow.Author.Tests.{eqb-true, eq-eqb}
+use borrow.Author.Tests.{eq-eqb}
 use lib.Dec.{T, eqb}
 use lib.ListN.{length}
-use Rattle.lists.specs.Every.{Every}
-use Rattle.lists.specs.Listed.{listed, listed-every, every-listed}
+use Rattle.lists.specs.Listed.{listed, every-listed}
 use Rattle.lists.specs.Numbers.{length-values, value-in}
-use Rattle.lists.specs.Tests.{true-fact, fact-true}
+use Rattle.lists.specs.Tests.{fact-true}
 use Rattle.subset.specs.Sets.{full}
 use Rattle.answer.specs.Stated.{plan}
 use Rattle.answer.specs.laws.OneToOne.{refusal-no-plan}
-use Rattle.answer.specs.declared.Refusal.the-variants.{Sheet, Tables, PlanFile}
+use Rattle.answer.specs.declared.Refusal.the-variants.{Sheet, Tables}
 use Rattle.answer.specs.declared.TableFault.the-variants.{ShortTables}
 use Rattle.answer.specs.declared.PlanFault.{PlanFault}
 use Rattle.graph.specs.Graph.{Graph}
@@ -32,62 +31,31 @@ use Rattle.planfile.specs.Format.{rootIn, totalIn, countIn, listedArc, arcsIn}
 use Rattle.planfile.specs.laws.Encoded.{WellFormed, FieldsAre, fields-encoding, encoding-fields}
 use Rattle.mission.specs.Runs.{GoodWith, ReaderTables, readerFurther, ReaderLong, Run}
 use Rattle.mission.specs.PointTwo.{EncodesPlan, ReaderPointTwo}
-use Rattle.file_tests.specs.FileFaults.{fileFault, orElse}
-use Rattle.file_tests.specs.laws.Faults.{some-fault, FileOk, file-passes, file-passed, listed-on}
-use Rattle.file_tests.specs.laws.Returned.{FieldsOf}
+use Rattle.file_tests.specs.FileFaults.{orElse}
+use Rattle.file_tests.specs.laws.Faults.{FileOk, file-passes}
 use Rattle.plan_tests.specs.PlanFaults.{planFault, treeFault}
-use Rattle.plan_tests.specs.laws.FirstFailed.{failed-none, none-failed}
+use Rattle.plan_tests.specs.laws.FirstFailed.{failed-none}
 use Rattle.file_reader.specs.FileAnswer.{answered, answerTo}
+use Rattle.file_reader.specs.laws.Accepted.{accepted-file}
 use Rattle.plan_reader.specs.Reader.{readingOf}
 use Rattle.plan_reader.specs.laws.Rules.{given, file-read}
 
 -- ---- the answer
 
--- an acceptance: there is no fault, and the numbers stand in the file
-accepted : (o : Option PlanFault) (file : List ℕ) (root cost count : ℕ) → answered o file ≡ plan root cost count → FieldsOf o file root cost count
-accepted none file root cost count e = record { no-fault = refl; root-is = sym (cc e); total-is = sym (cc e); count-is = sym (cc e) }
-accepted (some f) file root cost count e = absurd (refusal-no-plan (PlanFile f) root cost count e)
-
--- no fault of the file by itself, and none against the sheet
-neither : (a b : Option PlanFault) → orElse a b ≡ none → (a ≡ none) × (b ≡ none)
-neither none b e = (refl, e)
-neither (some f) b e = some-fault refl e
-
 module _ (G : Graph) (file : List ℕ) where
-  -- the listed arcs are arcs of the graph
-  arcs-on : FileOk (G .nodes) (G .arcs) file → Every (λ e. e < G .arcs) (arcsIn file)
-  arcs-on ok = listed-every (λ e. e < G .arcs) (arcsIn file) (listed-on (G .nodes) (G .arcs) file ok)
-
   well-formed : FileOk (G .nodes) (G .arcs) file → WellFormed file
   well-formed ok = record { size = ok .head .size; head-mark = ok .head .mark; marks = λ i l. ok .arcs i l .mark }
 
   -- an accepted file encodes a plan
   accepted-encodes : Bytes file → (root cost count : ℕ) → answerTo G file ≡ plan root cost count → EncodesPlan G file root cost count
-  unfolding treeFault
   accepted-encodes bytes root cost count e =
-      let a = accepted (orElse (fileFault (G .nodes) (G .arcs) file) (treeFault G file)) file root cost count e in
-      let (by-itself, against) = neither (fileFault (G .nodes) (G .arcs) file) (treeFault G file) (a .no-fault) in
-      let ok : FileOk (G .nodes) (G .arcs) file = file-passed (G .nodes) (G .arcs) file by-itself in
-      let L : List ℕ = arcsIn file in
-      let (tree, may, held, sum) =
-      none-failed (isTree G (rootIn file) L) (G .mayRoot (rootIn file)) (isCovering G (rootIn file) L (full (G .terminals)))
-      (eqb (totalIn file) (total G (rootIn file) L))
-      against in
-      let (from-tree, _) = tree-test G (rootIn file) L (ok .head .root) (arcs-on ok) in
-      let (covers, _) = covers-test G (rootIn file) L (full (G .terminals)) in
-      let (all, _) = covers-all G (rootIn file) L in
+      let a = accepted-file G file root cost count e in
       let here : EncodesPlan G file (rootIn file) (totalIn file) (countIn file) =
       record {
-        listed = L;
-        is-plan =
-            record {
-              may-root = true-fact may;
-              subtree = from-tree (true-fact tree);
-              covers = all (covers (true-fact held));
-              true-total = eqb-true _ _ sum;
-            };
+        listed = arcsIn file;
+        is-plan = record { may-root = a .may-root; subtree = a .subtree; covers = a .covers; true-total = a .true-total };
         count-is = length-values (listedArc file) 0 (countIn file);
-        encoded = fields-encoding file bytes (well-formed ok);
+        encoded = fields-encoding file bytes (well-formed (a .ok));
       } in
       subst (EncodesPlan G file root cost) (sym (a .count-is))
       (subst (λ (x : ℕ). EncodesPlan G file root x (countIn file)) (sym (a .total-is))

@@ -9,14 +9,23 @@ use native.Mathlib.Numerals.{add-one}
 use native.Mathlib.Omega.{arith}
 use native.Mathlib.Decide.{ℕ-discrete}
 use lib.Dec.{eqb, ltb}
-use lib.ListN.{length, getD}
+use lib.ListN.{length, getD, replicate, length-replicate, getD-replicate}
 use borrow.Author.Tests.{eq-eqb, ne-eqb, lt-ltb, le-ltb}
 use Rattle.lists.specs.Find.{first, first-found, first-none}
 use Rattle.lists.specs.Tests.{ltb-suc, true-fact, false-not-fact}
 use Rattle.subset.specs.Sets.{has, single}
 use Rattle.subset.specs.laws.Terminals.{has-single, has-empty}
-use Rattle.serving.specs.Parents.{Ways, EnteredBy}
+use Rattle.serving.specs.Parents.{noParent, NoParents, Ways, EnteredBy}
 use Rattle.serving.specs.Seats.{foundAt, seatIn, isAboveSeat, StationEnteredBy, NoneServed, ServedBy}
+
+-- ---- the tables before
+
+-- tables filled with one number
+pub no-parents : (n : ℕ) → NoParents (replicate n noParent)
+no-parents n v l = getD-replicate n v noParent 0 (subst (λ (m : ℕ). v < m) (length-replicate {A = ℕ} n noParent) l)
+
+pub none-served : (n : ℕ) → NoneServed (replicate n 0)
+none-served n u l = getD-replicate n u 0 0 (subst (λ (m : ℕ). u < m) (length-replicate {A = ℕ} n 0) l)
 
 -- ---- the seat that a search finds
 
