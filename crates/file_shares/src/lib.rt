@@ -70,7 +70,11 @@ pub fn share_file(
     let answer = read_file(file, n, k, arcs, starts, ends, weights, landings, marks);
     match answer {
         Answer::Refused(refusal) => Sharing::Refused(refusal),
-        Answer::Plan { root, total, arcs: count } => {
+        Answer::Plan {
+            root,
+            total,
+            arcs: count,
+        } => {
             let nodes = n as usize;
             let terminals = k as usize;
             let unassigned = divide(

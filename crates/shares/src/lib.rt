@@ -34,7 +34,18 @@ pub fn share_plan(
     match opened {
         Loaded::Refused(refusal) => Sharing::Refused(refusal),
         Loaded::Sheet { n, k, arcs } => {
-            share_file(file, n, k, arcs, starts, ends, weights, landings, marks, shares)
+            share_file(
+                file,
+                n,
+                k,
+                arcs,
+                starts,
+                ends,
+                weights,
+                landings,
+                marks,
+                shares,
+            )
         }
     }
 }

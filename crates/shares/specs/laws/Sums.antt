@@ -1,0 +1,3 @@
+-- stub
+-- Assumes nothing.
+use Prim.Native.Nat.{ℕ}
