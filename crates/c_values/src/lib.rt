@@ -2,10 +2,11 @@
 use answer::Answer;
 use answer::Enquiry;
 use answer::Refusal;
+use answer::Sharing;
 use answer::code_of;
 ghost use mathlib.Core.Path.{_≡_};
 ghost use lib.ListN.{set};
-ghost use Rattle.answer.specs.Stated.{stated, statedEnquiry, statedRefusal};
+ghost use Rattle.answer.specs.Stated.{stated, statedEnquiry, statedSharing, statedRefusal};
 ghost use Rattle.c_values.specs.Values.{Gives};
 
 // In the place of a site: no site is a best sender.
@@ -29,18 +30,44 @@ fn give_refusal(refusal: Refusal, values: &mut [u64]) -> u32
     code.number as u32
 }
 
+// Root, total and leg count of a plan.
+fn put_plan(root: u16, total: u64, arcs: u16, values: &mut [u64])
+    ensures { λ _. ⌜ now (values .exit) ≡ set (set (set (now (values .entry)) 0 root) 1 total) 2 arcs ⌝ }
+{
+    put(values, 0, root as u64);
+    put(values, 1, total);
+    put(values, 2, arcs as u64);
+}
+
 // Root, total and leg count of a plan, and 0; or the place of a refusal, and its number.
 pub fn give(sent: Answer, values: &mut [u64]) -> u32
     ensures { λ r. ⌜ Gives (stated sent) r (now (values .entry)) (now (values .exit)) ⌝ }
 {
     match sent {
         Answer::Plan { root, total, arcs } => {
-            put(values, 0, root as u64);
-            put(values, 1, total);
-            put(values, 2, arcs as u64);
+            put_plan(root, total, arcs, values);
             0
         }
         Answer::Refused(refusal) => give_refusal(refusal, values),
+    }
+}
+
+// Root, total, leg count and unassigned sum of a plan with shares, and 0; or the place of a refusal, and its number.
+pub fn give_sharing(sent: Sharing, values: &mut [u64]) -> u32
+    ensures { λ r. ⌜ Gives (statedSharing sent) r (now (values .entry)) (now (values .exit)) ⌝ }
+{
+    match sent {
+        Sharing::Shared {
+            root,
+            total,
+            arcs,
+            unassigned,
+        } => {
+            put_plan(root, total, arcs, values);
+            put(values, 3, unassigned);
+            0
+        }
+        Sharing::Refused(refusal) => give_refusal(refusal, values),
     }
 }
 

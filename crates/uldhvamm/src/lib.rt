@@ -1,13 +1,15 @@
 // The library for other languages: the number of its interface, and the entry points as C functions. A slice passes as a pointer and a length. Each
-// entry point returns 0 for a plan, an acceptance or an answer of the enquirer, else the number of the refusal, and writes what the answer
-// states into `answer`, as far as it has entries.
+// entry point returns 0 for a plan, an acceptance, shares or an answer of the enquirer, else the number of the refusal, and writes what the
+// answer states into `answer`, as far as it has entries.
 use c_values::give;
 use c_values::give_enquiry;
+use c_values::give_sharing;
 use engine::planning::plan_sheet;
 use enquirer::best_sender;
 use enquirer::cell;
 use limits::Cost;
 use plan_reader::read::read_plan;
+use shares::share_plan;
 ghost use mathlib.Core.Path.{_≡_};
 ghost use Rattle.lent_tables.specs.SheetTables.{sheetTables};
 ghost use Rattle.lent_tables.specs.IndexTables.{indexTables};
@@ -15,6 +17,7 @@ ghost use Rattle.mission.specs.Runs.{engineTables, readerTables};
 ghost use Rattle.engine.specs.Engine.{planningOf};
 ghost use Rattle.questions.specs.Questions.{cellAnswer, senderAnswer};
 ghost use Rattle.plan_reader.specs.Reader.{readingOf};
+ghost use Rattle.shares.specs.SharesOf.{shareTables, sharingOf};
 ghost use Rattle.c_values.specs.Values.{Gives};
 ghost use Rattle.uldhvamm.specs.Interface.{interface};
 ghost use Rattle.uldhvamm.specs.Returned.{call, callOf};
@@ -86,6 +89,29 @@ pub extern "C" fn uldhvamm_read_plan(
 {
     let sent = read_plan(sheet, file, starts, ends, prices, landings, marks);
     give(sent, answer)
+}
+
+// The shares of the stations in a plan.
+#[no_mangle]
+pub extern "C" fn uldhvamm_shares(
+    sheet: &[u8],
+    file: &[u8],
+    starts: &mut [u16],
+    ends: &mut [u16],
+    prices: &mut [u32],
+    landings: &mut [u16],
+    marks: &mut [u8],
+    shares: &mut [Cost],
+    answer: &mut [u64],
+) -> u32
+    ensures { λ r. ⌜ (let before = shareTables (readerTables (sheetTables (now (starts .entry)) (now (ends .entry)) (now (prices .entry)) (now (landings .entry)))
+        (now (marks .entry))) (now (shares .entry)) in
+        let after = shareTables (readerTables (sheetTables (now (starts .exit)) (now (ends .exit)) (now (prices .exit)) (now (landings .exit)))
+        (now (marks .exit))) (now (shares .exit)) in
+        call r (now (answer .exit)) after ≡ callOf (sharingOf (now (sheet .entry)) (now (file .entry)) before) (now (answer .entry))) ⌝ }
+{
+    let sent = share_plan(sheet, file, starts, ends, prices, landings, marks, shares);
+    give_sharing(sent, answer)
 }
 
 // The enquirer: the cell for a site and a subset.

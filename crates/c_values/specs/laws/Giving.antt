@@ -6,21 +6,21 @@ use mathlib.Core.List.{List, [], _∷_}
 use lib.ListN.{set}
 use Rattle.lists.specs.Over.{fitOver}
 use Rattle.lists.specs.Stores.{sets-fit}
-use Rattle.answer.specs.Stated.{Stated, Family, plan, refused}
+use Rattle.answer.specs.Stated.{Stated, Family, plan, shared, refused}
 use Rattle.c_values.specs.Values.{numberOf, valuesOf, Gives}
 
 -- a plan: 0, and three values
-pub gives-plan : {s : Stated} {root cost count : ℕ} {entries first second third : List ℕ} → plan root cost count ≡ s
-    → first ≡ set entries 0 root → second ≡ set first 1 cost → third ≡ set second 2 count → Gives s 0 entries third
-gives-plan {s} {root} {cost} {count} {entries} {first} {second} {third} e p q r =
-    subst (λ (x : Stated). Gives x 0 entries third) e
-    (record {
-      returned = refl;
-      values =
-          r
-          ∙ ap (λ (l : List ℕ). set l 2 count) (q ∙ ap (λ (l : List ℕ). set l 1 cost) p)
-          ∙ sets-fit (root ∷ cost ∷ count ∷ []) entries;
-    })
+pub gives-plan : {s : Stated} {root cost count : ℕ} {entries after : List ℕ} → plan root cost count ≡ s
+    → after ≡ set (set (set entries 0 root) 1 cost) 2 count → Gives s 0 entries after
+gives-plan {s} {root} {cost} {count} {entries} {after} e p =
+    subst (λ (x : Stated). Gives x 0 entries after) e (record { returned = refl; values = p ∙ sets-fit (root ∷ cost ∷ count ∷ []) entries })
+
+-- a plan with shares: 0, and four values
+pub gives-shared : {s : Stated} {root cost count rest : ℕ} {entries third after : List ℕ} → shared root cost count rest ≡ s
+    → third ≡ set (set (set entries 0 root) 1 cost) 2 count → after ≡ set third 3 rest → Gives s 0 entries after
+gives-shared {s} {root} {cost} {count} {rest} {entries} {third} {after} e p q =
+    subst (λ (x : Stated). Gives x 0 entries after) e
+    (record { returned = refl; values = q ∙ ap (λ (l : List ℕ). set l 3 rest) p ∙ sets-fit (root ∷ cost ∷ count ∷ rest ∷ []) entries })
 
 -- one value, with the number: a cell, a sender, no sender, or the place of a refusal
 pub gives-value : {s : Stated} {number value : ℕ} {entries after : List ℕ} (t : Stated) → t ≡ s → number ≡ numberOf t → valuesOf t ≡ value ∷ []
