@@ -1,5 +1,5 @@
 /*
- * Uldhvamm, a planner of radio relays: the planning, the plan reader and the enquirer as C functions.
+ * Uldhvamm, a planner of radio relays: the planning, the plan reader, the shares and the enquirer as C functions.
  *
  * Link with libuldhvamm.a, which `rt staticlib uldhvamm` writes to target/staticlib. It needs no runtime; of the C library it calls only
  * memset.
@@ -11,12 +11,12 @@
  *   string and every number is answered, and the tables and the buffer may hold anything and have any length.
  *
  * What is returned
- *   0 for a plan, an accepted plan file, a cell, a best sender and ULDHVAMM_NO_SENDER; else the number of the refusal,
- *   ULDHVAMM_SHORT_SHEET to ULDHVAMM_NOT_A_SENDER below.
+ *   0 for a plan, an accepted plan file, the shares of one, a cell, a best sender and ULDHVAMM_NO_SENDER; else the number of the
+ *   refusal, ULDHVAMM_SHORT_SHEET to ULDHVAMM_NOT_A_SENDER below.
  *
  * What is written to answer
- *   for a plan or an accepted plan file: root (the sending site), total (cents), number of legs; for a cell: the cell; for a best
- *   sender: its site, or ULDHVAMM_NO_SENDER; for a refusal: its place.
+ *   for a plan or an accepted plan file: root (the sending site), total (cents), number of legs; for shares: the same, and the unassigned
+ *   sum (cents); for a cell: the cell; for a best sender: its site, or ULDHVAMM_NO_SENDER; for a refusal: its place.
  *   As many of these as answer has entries for are written, from its first entry on; its other entries are untouched.
  *
  * Landing entries
@@ -136,6 +136,31 @@ uint32_t uldhvamm_read_plan(
     uint32_t *prices, size_t prices_length,
     uint16_t *landings, size_t landings_length,
     uint8_t *marks, size_t marks_length,
+    uint64_t *answer, size_t answer_length);
+
+/*
+ * The shares: reads a plan file as uldhvamm_read_plan does and, where it is accepted, splits the price of each listed leg over the stations
+ * that the leg serves.
+ *
+ * A station sits at its lowest-numbered landing among the sites that the plan holds, which are its root and the ends of its legs. A leg
+ * serves the stations that sit at or below its end: at its end, or at a site to which listed legs lead from there. Of m stations that a leg
+ * serves each pays the quotient of the price by m, and the lowest-numbered ones pay a cent more each until the remainder is used. The price
+ * of a leg that serves no station goes to the unassigned sum. The shares and the unassigned sum make the total. In a plan that
+ * uldhvamm_plan writes, the unassigned sum is 0.
+ *
+ * Refusals, places and tables are those of uldhvamm_read_plan, but ULDHVAMM_SHORT_TABLES also says that shares has fewer than k entries, k
+ * being the number of stations. On acceptance entry i of shares, for i below k, is the share of station i in cents, and answer has four
+ * values: root, total, number of legs, unassigned sum. On a refusal shares is untouched; its entries from k on are always untouched.
+ */
+uint32_t uldhvamm_shares(
+    const uint8_t *sheet, size_t sheet_length,
+    const uint8_t *file, size_t file_length,
+    uint16_t *starts, size_t starts_length,
+    uint16_t *ends, size_t ends_length,
+    uint32_t *prices, size_t prices_length,
+    uint16_t *landings, size_t landings_length,
+    uint8_t *marks, size_t marks_length,
+    uint32_t *shares, size_t shares_length,
     uint64_t *answer, size_t answer_length);
 
 /*

@@ -5,7 +5,7 @@
 
 #![allow(unsafe_code)]
 
-use crate::tables::{Answer, CostTable, Enquiry, Lent, Question, Tables};
+use crate::tables::{Answer, CostTable, Enquiry, Lent, Question, Sharing, Tables};
 
 /// The number of the interface that is declared here.
 pub const INTERFACE: u32 = 3;
@@ -68,6 +68,27 @@ extern "C" {
         answer_length: usize,
     ) -> u32;
 
+    fn uldhvamm_shares(
+        sheet: *const u8,
+        sheet_length: usize,
+        file: *const u8,
+        file_length: usize,
+        starts: *mut u16,
+        starts_length: usize,
+        ends: *mut u16,
+        ends_length: usize,
+        prices: *mut u32,
+        prices_length: usize,
+        landings: *mut u16,
+        landings_length: usize,
+        marks: *mut u8,
+        marks_length: usize,
+        shares: *mut u32,
+        shares_length: usize,
+        answer: *mut u64,
+        answer_length: usize,
+    ) -> u32;
+
     fn uldhvamm_cell(
         cells: *const u32,
         cells_length: usize,
@@ -107,18 +128,24 @@ fn check_interface() {
     );
 }
 
-/// Plans a sheet. Returns 0 for a plan, else the number of the refusal.
+/// Plans a sheet. Returns 0 for a plan, else the number of the refusal. The share table is not lent.
 pub fn plan(sheet: &[u8], tables: &mut Tables, answer: &mut [u64]) -> u32 {
     plan_lent(sheet, tables.lend(), answer)
 }
 
-/// Reads a plan file against a sheet. Returns 0 for an acceptance, else the number of the refusal. The index of the legs, the cells and the
-/// plan buffer are not lent.
+/// Reads a plan file against a sheet. Returns 0 for an acceptance, else the number of the refusal. The index of the legs, the cells, the
+/// plan buffer and the share table are not lent.
 pub fn read_plan(sheet: &[u8], file: &[u8], tables: &mut Tables, answer: &mut [u64]) -> u32 {
     read_plan_lent(sheet, file, tables.lend(), answer)
 }
 
-/// `plan` with slices.
+/// Reads a plan file against a sheet and, where it is accepted, writes what each station pays to the share table. Returns 0 for an
+/// acceptance, else the number of the refusal. The index of the legs, the cells and the plan buffer are not lent.
+pub fn shares(sheet: &[u8], file: &[u8], tables: &mut Tables, answer: &mut [u64]) -> u32 {
+    shares_lent(sheet, file, tables.lend(), answer)
+}
+
+/// `plan` with slices. The share table of `lent` is left out.
 pub fn plan_lent(sheet: &[u8], lent: Lent, answer: &mut [u64]) -> u32 {
     check_interface();
     // SAFETY: each pointer and length are those of one slice; the mutable slices overlap nothing.
@@ -150,7 +177,7 @@ pub fn plan_lent(sheet: &[u8], lent: Lent, answer: &mut [u64]) -> u32 {
     }
 }
 
-/// `read_plan` with slices. The index of the legs, the cells and the plan buffer of `lent` are left out.
+/// `read_plan` with slices. The index of the legs, the cells, the plan buffer and the share table of `lent` are left out.
 pub fn read_plan_lent(sheet: &[u8], file: &[u8], lent: Lent, answer: &mut [u64]) -> u32 {
     check_interface();
     // SAFETY: each pointer and length are those of one slice; the mutable slices overlap nothing.
@@ -170,6 +197,34 @@ pub fn read_plan_lent(sheet: &[u8], file: &[u8], lent: Lent, answer: &mut [u64])
             lent.landings.len(),
             lent.marks.as_mut_ptr(),
             lent.marks.len(),
+            answer.as_mut_ptr(),
+            answer.len(),
+        )
+    }
+}
+
+/// `shares` with slices. The index of the legs, the cells and the plan buffer of `lent` are left out.
+pub fn shares_lent(sheet: &[u8], file: &[u8], lent: Lent, answer: &mut [u64]) -> u32 {
+    check_interface();
+    // SAFETY: each pointer and length are those of one slice; the mutable slices overlap nothing.
+    unsafe {
+        uldhvamm_shares(
+            sheet.as_ptr(),
+            sheet.len(),
+            file.as_ptr(),
+            file.len(),
+            lent.starts.as_mut_ptr(),
+            lent.starts.len(),
+            lent.ends.as_mut_ptr(),
+            lent.ends.len(),
+            lent.prices.as_mut_ptr(),
+            lent.prices.len(),
+            lent.landings.as_mut_ptr(),
+            lent.landings.len(),
+            lent.marks.as_mut_ptr(),
+            lent.marks.len(),
+            lent.shares.as_mut_ptr(),
+            lent.shares.len(),
             answer.as_mut_ptr(),
             answer.len(),
         )
@@ -235,6 +290,13 @@ pub fn answer_to_file(sheet: &[u8], file: &[u8], tables: &mut Tables) -> Answer 
     let mut answer = [0; 3];
     let number = read_plan(sheet, file, tables, &mut answer);
     Answer::decode(number, &answer)
+}
+
+/// Shares the price of a plan file out over the stations and decodes the answer.
+pub fn answer_to_sharing(sheet: &[u8], file: &[u8], tables: &mut Tables) -> Sharing {
+    let mut answer = [0; 4];
+    let number = shares(sheet, file, tables, &mut answer);
+    Sharing::decode(number, &answer)
 }
 
 /// Asks about a cost table and decodes the answer.

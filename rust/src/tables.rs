@@ -14,6 +14,7 @@ pub struct Lengths {
     pub cells: usize,
     pub marks: usize,
     pub plan: usize,
+    pub shares: usize,
 }
 
 impl Lengths {
@@ -29,12 +30,14 @@ impl Lengths {
             cells: n << k,
             marks: n,
             plan: 10 + 4 * n.saturating_sub(1),
+            shares: k,
         }
     }
 }
 
 /// The lent tables and the plan buffer. An entry of `landings` is the site's set of stations, and `SENDER_FLAG` more where it may send.
-/// `by_end` has the leg numbers by end, in leg order within, and entry v of `places` the number of legs that end at a site below v.
+/// `by_end` has the leg numbers by end, in leg order within, and entry v of `places` the number of legs that end at a site below v. Entry i
+/// of `shares` is what station i pays, in cents.
 #[derive(Clone, Debug, PartialEq, Eq)]
 pub struct Tables {
     pub starts: Vec<u16>,
@@ -46,6 +49,7 @@ pub struct Tables {
     pub cells: Vec<u32>,
     pub marks: Vec<u8>,
     pub plan: Vec<u8>,
+    pub shares: Vec<u32>,
 }
 
 impl Tables {
@@ -71,6 +75,7 @@ impl Tables {
             cells: (0..lengths.cells).map(|_| contents() as u32).collect(),
             marks: (0..lengths.marks).map(|_| contents() as u8).collect(),
             plan: (0..lengths.plan).map(|_| contents() as u8).collect(),
+            shares: (0..lengths.shares).map(|_| contents() as u32).collect(),
         }
     }
 
@@ -85,6 +90,7 @@ impl Tables {
         self.cells.clone_from(&other.cells);
         self.marks.clone_from(&other.marks);
         self.plan.clone_from(&other.plan);
+        self.shares.clone_from(&other.shares);
     }
 
     /// The tables as slices, to be lent.
@@ -99,6 +105,7 @@ impl Tables {
             cells: &mut self.cells,
             marks: &mut self.marks,
             plan: &mut self.plan,
+            shares: &mut self.shares,
         }
     }
 }
@@ -114,6 +121,7 @@ pub struct Lent<'a> {
     pub cells: &'a mut [u32],
     pub marks: &'a mut [u8],
     pub plan: &'a mut [u8],
+    pub shares: &'a mut [u32],
 }
 
 /// An answer of the engine or the plan reader, decoded.
@@ -135,6 +143,39 @@ impl Answer {
                 legs: answer[2],
             },
             _ => Answer::Refused {
+                number,
+                place: answer[0],
+            },
+        }
+    }
+}
+
+/// An answer to the sharing of a plan file, decoded.
+#[derive(Clone, Copy, Debug, PartialEq, Eq)]
+pub enum Sharing {
+    /// The file is accepted, and the shares stand in the share table. With `unassigned`, the sum of the legs that serve no station, they make
+    /// the total.
+    Shared {
+        root: u64,
+        total: u64,
+        legs: u64,
+        unassigned: u64,
+    },
+    /// A refusal of documents 01 and 02. The share table is as before.
+    Refused { number: u32, place: u64 },
+}
+
+impl Sharing {
+    /// The answer of a call that returned `number` and left `answer`.
+    pub fn decode(number: u32, answer: &[u64; 4]) -> Sharing {
+        match number {
+            0 => Sharing::Shared {
+                root: answer[0],
+                total: answer[1],
+                legs: answer[2],
+                unassigned: answer[3],
+            },
+            _ => Sharing::Refused {
                 number,
                 place: answer[0],
             },
