@@ -1,9 +1,10 @@
-//! The cases of the benchmark: sheets to plan, plan files to read, and sheets that are only read.
+//! The cases of the benchmark: sheets to plan, plan files to read and to share out, and sheets that are only read.
 
 use uldhvamm::{Lengths, Tables};
 use uldhvamm_bench::compare::Call;
 use uldhvamm_bench::sheets::{
-    among_some, bad_reading, chain, filled_sheet, gated_row, grid, heard_often, random_sheet,
+    among_some, bad_reading, chain, far_chain, filled_sheet, gated_row, grid, heard_often,
+    random_sheet,
 };
 use uldhvamm_bench::sheets::{Chain, Order, Sheet};
 
@@ -25,6 +26,7 @@ pub fn cases() -> Vec<Case> {
     cases.push(plan_case("row behind a gate", gated_row(12, false)));
     cases.push(plan_case("the same, dear ways", gated_row(12, true)));
     cases.extend(reading_cases());
+    cases.extend(sharing_cases());
     cases
 }
 
@@ -113,6 +115,33 @@ fn reading_case(name: &str, sheet: &Sheet, file: Vec<u8>) -> Case {
         lengths: needed(sheet),
         sheet: sheet.bytes(),
     }
+}
+
+/// The sharing of the sheet's own plan.
+fn sharing_case(name: &str, sheet: &Sheet) -> Case {
+    let file = plan_of(sheet);
+    let legs = (file.len() - 10) / 4;
+    Case {
+        name: format!("share: {name}, {legs} legs"),
+        call: Call::Share(file),
+        lengths: needed(sheet),
+        sheet: sheet.bytes(),
+    }
+}
+
+/// Sharings of plans: those of a random sheet and of a grid, which have few legs, and those of chains, whose legs serve ten stations at the
+/// far end, or nine near it.
+fn sharing_cases() -> Vec<Case> {
+    let near = long_chain(1023, Order::Mixed, true);
+    vec![
+        sharing_case(
+            "plan of a random sheet",
+            &random_sheet(1, 1024, 10, 8192, 1_000_000),
+        ),
+        sharing_case("plan of a grid", &grid(8, 32, 10, Order::Mixed)),
+        sharing_case("chain, ten stations at its far end", &far_chain(1024, 10)),
+        sharing_case("chain, nine near its far end", &near),
+    ]
 }
 
 /// The plan file of a sheet that has a plan.

@@ -18,6 +18,8 @@ pub enum Call {
     Plan,
     /// The reading of this plan file.
     Read(Vec<u8>),
+    /// The sharing of this plan file.
+    Share(Vec<u8>),
 }
 
 /// Calls the library. Only this is timed by the benchmark.
@@ -25,6 +27,7 @@ pub fn call_library(call: &Call, sheet: &[u8], tables: &mut Tables, answer: &mut
     match call {
         Call::Plan => uldhvamm::plan(sheet, tables, answer),
         Call::Read(file) => uldhvamm::read_plan(sheet, file, tables, answer),
+        Call::Share(file) => uldhvamm::shares(sheet, file, tables, answer),
     }
 }
 
@@ -33,6 +36,7 @@ pub fn call_reference(call: &Call, sheet: &[u8], tables: &mut Tables, answer: &m
     match call {
         Call::Plan => reference::plan(sheet, tables, answer),
         Call::Read(file) => reference::read_plan(sheet, file, tables, answer),
+        Call::Share(file) => reference::shares(sheet, file, tables, answer),
     }
 }
 
@@ -59,6 +63,7 @@ pub fn table_difference(one: &Tables, other: &Tables) -> Option<String> {
         .or_else(|| entry_difference("cells", &one.cells, &other.cells))
         .or_else(|| entry_difference("marks", &one.marks, &other.marks))
         .or_else(|| entry_difference("plan", &one.plan, &other.plan))
+        .or_else(|| entry_difference("shares", &one.shares, &other.shares))
 }
 
 /// The first place at which two slices differ, in words.
@@ -138,12 +143,15 @@ pub fn some_site_reaches_all(table: CostTable) -> bool {
 pub fn described(call: &Call, sheet: &[u8]) -> String {
     match call {
         Call::Plan => format!("planning, sheet {}", hexadecimal(sheet)),
-        Call::Read(file) => format!(
-            "reading, sheet {}\nfile {}",
-            hexadecimal(sheet),
-            hexadecimal(file)
-        ),
+        Call::Read(file) => described_file("reading", sheet, file),
+        Call::Share(file) => described_file("sharing", sheet, file),
     }
+}
+
+/// What is done with a file against a sheet, and both in hexadecimal.
+fn described_file(word: &str, sheet: &[u8], file: &[u8]) -> String {
+    let (sheet, file) = (hexadecimal(sheet), hexadecimal(file));
+    format!("{word}, sheet {sheet}\nfile {file}")
 }
 
 /// Bytes in hexadecimal, two digits each.

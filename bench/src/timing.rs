@@ -67,7 +67,7 @@ pub fn time(case: &Case, place: &str, quick: bool) -> Result<Times, String> {
 fn empty_run(garbage: &Tables) -> Run {
     Run {
         number: u32::MAX,
-        answer: vec![0; 3],
+        answer: vec![0; 4],
         tables: garbage.clone(),
     }
 }

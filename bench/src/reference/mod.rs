@@ -12,6 +12,12 @@
 //! - 17, 20, 18 and 19: these filled too, and the first n marks 1 for sites reached from the root, else 0; `answer` has the place 0;
 //! - acceptance: the tables as for 17, `answer` has root, total and number of legs.
 //!
+//! After the sharing of a plan file all is as after its reading, 11 also for a share table under k entries, and beside it:
+//! - a refusal: the share table is as before;
+//! - acceptance: the first k shares are what the stations pay, `answer` has root, total, number of legs and the unassigned sum.
+//!
+//! The planning and the reading leave the share table alone.
+//!
 //! `answer` gets as many of its values as it has entries. Entries past those named are as before.
 //!
 //! A question about a cost table writes `answer` alone.
@@ -22,6 +28,7 @@ mod index;
 mod layout;
 mod plan_file;
 mod search;
+mod shares;
 mod sheet;
 
 pub use enquirer::enquire;
@@ -49,19 +56,25 @@ impl Refusal {
 
 /// Plans a sheet. Returns 0 for a plan, else the number of the refusal.
 pub fn plan(bytes: &[u8], tables: &mut Tables, answer: &mut [u64]) -> u32 {
-    send_back(planned(bytes, tables), answer)
+    let outcome = planned(bytes, tables);
+    send_back(outcome.map(|plan| plan.values()), answer)
 }
 
 /// Reads a plan file against a sheet. Returns 0 for an acceptance, else the number of the refusal.
 pub fn read_plan(bytes: &[u8], file: &[u8], tables: &mut Tables, answer: &mut [u64]) -> u32 {
-    send_back(accepted(bytes, file, tables), answer)
+    let outcome = read(bytes, file, tables);
+    send_back(outcome.map(|plan| plan.values()), answer)
+}
+
+/// Reads a plan file against a sheet and shares its price out over the stations. Returns 0 for an acceptance, else the number of the refusal.
+pub fn shares(bytes: &[u8], file: &[u8], tables: &mut Tables, answer: &mut [u64]) -> u32 {
+    send_back(shared(bytes, file, tables), answer)
 }
 
 /// Writes the values of an outcome into `answer`, as many as fit, and gives the number to return.
-fn send_back(outcome: Result<PlanFile, Refusal>, answer: &mut [u64]) -> u32 {
+fn send_back<const N: usize>(outcome: Result<[u64; N], Refusal>, answer: &mut [u64]) -> u32 {
     match outcome {
-        Ok(plan) => {
-            let values = [plan.root as u64, plan.total, plan.legs.len() as u64];
+        Ok(values) => {
             answer.iter_mut().zip(values).for_each(|(to, v)| *to = v);
             0
         }
@@ -92,20 +105,44 @@ fn planned(bytes: &[u8], tables: &mut Tables) -> Result<PlanFile, Refusal> {
     Ok(plan)
 }
 
-/// The plan reader: the sheet, 11, the leg tables and landing sets, the file, the marks, 17, 20, 18, 19.
-fn accepted(bytes: &[u8], file: &[u8], tables: &mut Tables) -> Result<PlanFile, Refusal> {
+/// The plan reader: the sheet, 11, and the file.
+fn read(bytes: &[u8], file: &[u8], tables: &mut Tables) -> Result<PlanFile, Refusal> {
     let sheet = sheet::read(bytes)?;
     if !has_room(&sheet, tables) {
         return Err(Refusal::at(11, 0));
     }
-    load(&sheet, tables);
-    let plan = plan_file::read(&sheet, file)?;
-    let reached = plan_file::reached(&sheet, &plan);
+    let (plan, _) = accepted(&sheet, file, tables)?;
+    Ok(plan)
+}
+
+/// The shares: the sheet, 11 with the share table, the file, and what each station pays. An accepted plan holds the sites that it reaches.
+fn shared(bytes: &[u8], file: &[u8], tables: &mut Tables) -> Result<[u64; 4], Refusal> {
+    let sheet = sheet::read(bytes)?;
+    if !has_room(&sheet, tables) || tables.shares.len() < sheet.stations {
+        return Err(Refusal::at(11, 0));
+    }
+    let (plan, held) = accepted(&sheet, file, tables)?;
+    let shares = &mut tables.shares[..sheet.stations];
+    let unassigned = shares::deal(&sheet, &plan, &held, shares);
+    let [root, total, legs] = plan.values();
+    Ok([root, total, legs, unassigned])
+}
+
+/// A file against a good sheet for which there is room: the leg tables and landing sets, the file, the marks, 17, 20, 18, 19. Gives the plan
+/// and, for each site, whether it is reached.
+fn accepted(
+    sheet: &Sheet,
+    file: &[u8],
+    tables: &mut Tables,
+) -> Result<(PlanFile, Vec<bool>), Refusal> {
+    load(sheet, tables);
+    let plan = plan_file::read(sheet, file)?;
+    let reached = plan_file::reached(sheet, &plan);
     for (mark, &is_reached) in tables.marks.iter_mut().zip(&reached) {
         *mark = u8::from(is_reached);
     }
-    plan_file::judge(&sheet, &plan, &reached)?;
-    Ok(plan)
+    plan_file::judge(sheet, &plan, &reached)?;
+    Ok((plan, reached))
 }
 
 /// Whether the leg tables, the landing sets and the marks are long enough.

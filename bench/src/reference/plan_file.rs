@@ -16,6 +16,11 @@ pub struct PlanFile {
 }
 
 impl PlanFile {
+    /// The values that a plan and an acceptance send back.
+    pub fn values(&self) -> [u64; 3] {
+        [self.root as u64, self.total, self.legs.len() as u64]
+    }
+
     /// Writes the file to the start of a buffer, or gives 13 and leaves it alone.
     pub fn write(&self, buffer: &mut [u8]) -> Result<(), Refusal> {
         let length = HEAD + RECORD * self.legs.len();

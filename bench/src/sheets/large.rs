@@ -1,4 +1,4 @@
-//! Large sheets of set shapes: random, legs among some of the sites, stations heard at many sites, a grid, a chain, a row behind a gate, a sheet at
+//! Large sheets of set shapes: random, legs among some of the sites, stations heard at many sites, a grid, chains, a row behind a gate, a sheet at
 //! every limit, one with few senders; and a plan file that is long to read.
 
 use super::{PlanFile, Random, Record, Sheet};
@@ -173,6 +173,25 @@ fn chain_legs(random: &mut Random, shape: Chain) -> Vec<Record> {
         }
     };
     numbers.into_iter().map(&mut leg_of).collect()
+}
+
+/// A chain from site 0, which alone may send, to the last site, at which every station is heard. So each of its legs serves every station.
+/// Prices are drawn from 1 to 1,000, and the legs are listed in random order.
+pub fn far_chain(sites: u16, stations: u8) -> Sheet {
+    let shape = Chain {
+        sites,
+        stations,
+        legs: usize::from(sites) - 1,
+        order: Order::Mixed,
+        whole: false,
+    };
+    let mut sheet = chain(18, shape).sender(0);
+    for record in &mut sheet.records {
+        if let Record::Landing { site, .. } = record {
+            *site = sites - 1;
+        }
+    }
+    sheet
 }
 
 /// The site at which a station of a chain is heard.

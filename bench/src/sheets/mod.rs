@@ -10,8 +10,8 @@ mod small;
 pub use damage::damaged;
 pub use files::{leg_records, varied_file, PlanFile};
 pub use large::{
-    among_some, bad_reading, chain, filled_sheet, gated_row, grid, heard_often, licensed,
-    random_sheet,
+    among_some, bad_reading, chain, far_chain, filled_sheet, gated_row, grid, heard_often,
+    licensed, random_sheet,
 };
 pub use large::{Chain, Order};
 pub use questions::{question, random_table, MadeTable};
