@@ -43,7 +43,8 @@ pub fn named_numbers<const N: usize>(text: &str) -> Result<(&str, [u32; N]), Str
 
 /// The lengths of all tables.
 pub fn lengths(text: &str) -> Result<Lengths, String> {
-    let [starts, ends, prices, landings, by_end, places, cells, marks, plan] = numbers(text)?;
+    let [starts, ends, prices, landings, by_end, places, cells, marks, plan, shares] =
+        numbers(text)?;
     Ok(Lengths {
         starts,
         ends,
@@ -54,6 +55,7 @@ pub fn lengths(text: &str) -> Result<Lengths, String> {
         cells,
         marks,
         plan,
+        shares,
     })
 }
 

@@ -1,13 +1,14 @@
-//! Stored cases of sheets, plan files, the engine and the enquirer. Each is run by the library and by the reference, and what is printed is
-//! to be the stored output.
+//! Stored cases of sheets, plan files, shares, the engine and the enquirer. Each is run by the library and by the reference, and what is printed
+//! is to be the stored output. The plan files are also read by the sharing, which is to print the same.
 //!
 //! A file `data/NAME.txt` has the cases, one directive a line, and `data/NAME.out` the stored output. Empty lines and lines that begin
 //! with `#` are passed over. No two cases of a file print the same name.
 //!
 //! What is lent to the cases after it:
-//! - `tables STARTS ENDS PRICES LANDINGS BY_END PLACES CELLS MARKS PLAN`: tables of so many entries and a plan buffer of so many bytes.
-//! - `lend STARTS ENDS PRICES LANDINGS BY_END PLACES CELLS MARKS PLAN`: of these, so many of the first entries; `lend all`: all, as after
-//!   `tables`.
+//! - `tables STARTS ENDS PRICES LANDINGS BY_END PLACES CELLS MARKS PLAN SHARES`: tables of so many entries and a plan buffer of so many
+//!   bytes.
+//! - `lend STARTS ENDS PRICES LANDINGS BY_END PLACES CELLS MARKS PLAN SHARES`: of these, so many of the first entries; `lend all`: all, as
+//!   after `tables`.
 //! - `fill VALUE`: what each cell holds before a planning, in place of 4000000005.
 //!
 //! Sheets and plan files:
@@ -15,6 +16,7 @@
 //! - `load NAME`: the sheet is read, with an empty plan file. Refusal 14 says that it is good.
 //! - `cuts NAME`: `load` with the first 0, 1, 2, .. bytes of the sheet.
 //! - `read NAME: BYTES`: the plan file is read against the sheet.
+//! - `share NAME: BYTES`: the price of the plan file is shared out over the stations of the sheet.
 //! - `plan NAME`: the sheet is planned.
 //!
 //! `load`, `cuts` and `plan` with `NAME: BYTES` are `sheet NAME: BYTES` and the directive.
@@ -59,6 +61,12 @@ const PLANS: Data = Data {
     output: include_str!("data/plans.out"),
 };
 
+const SHARES: Data = Data {
+    name: "shares",
+    cases: include_str!("data/shares.txt"),
+    output: include_str!("data/shares.out"),
+};
+
 const ENGINE: Data = Data {
     name: "engine",
     cases: include_str!("data/engine.txt"),
@@ -89,6 +97,26 @@ fn the_library_reads_plan_files() {
 #[test]
 fn the_reference_reads_plan_files() {
     PLANS.check(Planner::Reference);
+}
+
+#[test]
+fn the_library_shares_plan_files_as_it_reads_them() {
+    PLANS.check_by_sharing(Planner::Library);
+}
+
+#[test]
+fn the_reference_shares_plan_files_as_it_reads_them() {
+    PLANS.check_by_sharing(Planner::Reference);
+}
+
+#[test]
+fn the_library_shares_prices() {
+    SHARES.check(Planner::Library);
+}
+
+#[test]
+fn the_reference_shares_prices() {
+    SHARES.check(Planner::Reference);
 }
 
 #[test]

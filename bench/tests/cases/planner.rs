@@ -1,8 +1,8 @@
 //! The library and the reference, which are lent the first entries of tables.
 
 use std::hint::black_box;
-use uldhvamm::{enquire, plan_lent, read_plan_lent};
-use uldhvamm::{Answer, CostTable, Enquiry, Lengths, Lent, Question, Tables};
+use uldhvamm::{enquire, plan_lent, read_plan_lent, shares_lent};
+use uldhvamm::{Answer, CostTable, Enquiry, Lengths, Lent, Question, Sharing, Tables};
 use uldhvamm_bench::reference;
 
 /// What runs the cases.
@@ -39,6 +39,19 @@ impl Planner {
         Answer::decode(number, &answer)
     }
 
+    /// Shares a plan file out over the stations of a sheet with the first entries of tables.
+    pub fn share(self, sheet: &[u8], file: &[u8], tables: &mut Tables, lent: Lengths) -> Sharing {
+        let mut answer = [77; 4];
+        let number = match self {
+            Planner::Library => shares_lent(sheet, file, first(tables, lent), &mut answer),
+            Planner::Reference => with_copies(tables, lent, |copies| {
+                reference::shares(sheet, file, copies, &mut answer)
+            }),
+        };
+        black_box(tables);
+        Sharing::decode(number, &answer)
+    }
+
     /// Asks about cells.
     pub fn ask(self, table: CostTable, question: Question) -> Enquiry {
         let mut answer = [77];
@@ -62,6 +75,7 @@ fn first(tables: &mut Tables, lent: Lengths) -> Lent<'_> {
         cells: &mut tables.cells[..lent.cells],
         marks: &mut tables.marks[..lent.marks],
         plan: &mut tables.plan[..lent.plan],
+        shares: &mut tables.shares[..lent.shares],
     }
 }
 
@@ -78,6 +92,7 @@ fn with_copies(tables: &mut Tables, lent: Lengths, call: impl FnOnce(&mut Tables
         cells: part.cells.to_vec(),
         marks: part.marks.to_vec(),
         plan: part.plan.to_vec(),
+        shares: part.shares.to_vec(),
     };
     let number = call(&mut copies);
     part.starts.copy_from_slice(&copies.starts);
@@ -89,5 +104,6 @@ fn with_copies(tables: &mut Tables, lent: Lengths, call: impl FnOnce(&mut Tables
     part.cells.copy_from_slice(&copies.cells);
     part.marks.copy_from_slice(&copies.marks);
     part.plan.copy_from_slice(&copies.plan);
+    part.shares.copy_from_slice(&copies.shares);
     number
 }

@@ -5,7 +5,7 @@ use crate::notation::bytes;
 use crate::planner::Planner;
 use crate::text;
 use std::collections::{BTreeMap, BTreeSet};
-use uldhvamm::{Answer, CostTable, Lengths, Question, Tables, MAX_SITES};
+use uldhvamm::{Answer, CostTable, Lengths, Question, Sharing, Tables, MAX_SITES};
 
 /// Tables without entries.
 const EMPTY: Lengths = Lengths {
@@ -18,14 +18,25 @@ const EMPTY: Lengths = Lengths {
     cells: 0,
     marks: 0,
     plan: 0,
+    shares: 0,
 };
 
 /// A mark before a call.
 const MARK: u8 = 9;
 
+/// A share before a call.
+const SHARE: u32 = 4_000_000_007;
+
+/// What runs the `read` lines: the plan reader, or the sharing, which is to answer the same and to leave the same in the reader's tables.
+#[derive(Clone, Copy, Debug)]
+pub enum Reader {
+    Reading,
+    Sharing,
+}
+
 /// What a planner prints for the cases of a data file, or the line that is not readable.
-pub fn output(planner: Planner, cases: &str) -> Result<String, String> {
-    let mut runner = Runner::new(planner);
+pub fn output(planner: Planner, reader: Reader, cases: &str) -> Result<String, String> {
+    let mut runner = Runner::new(planner, reader);
     for (line, directive) in (1..).zip(cases.lines()) {
         if !directive.is_empty() && !directive.starts_with('#') {
             let done = runner.obey(directive);
@@ -38,6 +49,7 @@ pub fn output(planner: Planner, cases: &str) -> Result<String, String> {
 /// What the earlier directives have set, and the output.
 struct Runner {
     planner: Planner,
+    reader: Reader,
     lengths: Lengths,
     lent: Lengths,
     fill: u32,
@@ -50,9 +62,10 @@ struct Runner {
 }
 
 impl Runner {
-    fn new(planner: Planner) -> Runner {
+    fn new(planner: Planner, reader: Reader) -> Runner {
         Runner {
             planner,
+            reader,
             lengths: EMPTY,
             lent: EMPTY,
             fill: 4_000_000_005,
@@ -76,6 +89,7 @@ impl Runner {
             "load" => self.load(rest),
             "cuts" => self.cuts(rest),
             "read" => self.read(rest),
+            "share" => self.share(rest),
             "plan" => self.plan(rest),
             "cells" => self.set_cells(rest),
             "landings" => self.set_landings(rest),
@@ -182,10 +196,43 @@ impl Runner {
         let (name, notation) = named_text(rest)?;
         let file = bytes(notation)?;
         let mut tables = self.tables();
-        let answer = self
-            .planner
-            .read(&self.sheet, &file, &mut tables, self.lent);
+        let answer = match self.reader {
+            Reader::Reading => self
+                .planner
+                .read(&self.sheet, &file, &mut tables, self.lent),
+            Reader::Sharing => self.read_by_sharing(&file, &mut tables)?,
+        };
         let printed = text::answer("accepted", answer) + &text::reader_tables(&tables);
+        self.print(name, &printed)
+    }
+
+    /// Reads a plan file by the sharing. On acceptance the shares of the sheet's stations are to be written, and to make the total with the
+    /// unassigned sum; no other share is to be written.
+    fn read_by_sharing(&self, file: &[u8], tables: &mut Tables) -> Result<Answer, String> {
+        let sharing = self.planner.share(&self.sheet, file, tables, self.lent);
+        let stations = match sharing {
+            Sharing::Shared { .. } => usize::from(self.sheet[4]),
+            Sharing::Refused { .. } => 0,
+        };
+        let (written, others) = tables.shares.split_at(stations);
+        let paid: u64 = written.iter().map(|&share| u64::from(share)).sum();
+        let others_kept = others.iter().all(|&share| share == SHARE);
+        let (answer, all_paid) = read_answer(sharing, paid);
+        match others_kept && all_paid {
+            true => Ok(answer),
+            false => Err(format!("{sharing:?} with the shares {:?}", tables.shares)),
+        }
+    }
+
+    /// `share`.
+    fn share(&mut self, rest: &str) -> Result<(), String> {
+        let (name, notation) = named_text(rest)?;
+        let file = bytes(notation)?;
+        let mut tables = self.tables();
+        let sharing = self
+            .planner
+            .share(&self.sheet, &file, &mut tables, self.lent);
+        let printed = text::sharing(sharing) + &text::sharing_tables(&tables);
         self.print(name, &printed)
     }
 
@@ -212,6 +259,7 @@ impl Runner {
             cells: vec![self.fill; self.lengths.cells],
             marks: vec![MARK; self.lengths.marks],
             plan: vec![238; self.lengths.plan],
+            shares: vec![SHARE; self.lengths.shares],
         }
     }
 
@@ -277,5 +325,22 @@ impl Runner {
         }
         self.output += &format!("{name}: {text}");
         Ok(())
+    }
+}
+
+/// The answer that the plan reader is to give where the sharing gives this one, and whether so many cents paid make the total with the
+/// unassigned sum.
+fn read_answer(sharing: Sharing, paid: u64) -> (Answer, bool) {
+    match sharing {
+        Sharing::Shared {
+            root,
+            total,
+            legs,
+            unassigned,
+        } => (
+            Answer::Plan { root, total, legs },
+            paid + unassigned == total,
+        ),
+        Sharing::Refused { number, place } => (Answer::Refused { number, place }, true),
     }
 }

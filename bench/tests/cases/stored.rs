@@ -1,7 +1,7 @@
 //! A data file and its stored output, and the differences between what is printed and what is stored.
 
 use crate::planner::Planner;
-use crate::run;
+use crate::run::{self, Reader};
 use std::collections::BTreeMap;
 use std::fs;
 use std::path::Path;
@@ -14,14 +14,24 @@ pub struct Data {
 }
 
 impl Data {
-    /// Runs the cases and fails where the output is not the stored one. It is then kept in a file, which the failure names.
+    /// Runs the cases and fails where the output is not the stored one.
     pub fn check(&self, planner: Planner) {
-        let printed = run::output(planner, self.cases)
+        self.check_with(planner, Reader::Reading);
+    }
+
+    /// The same, with every plan file read by the sharing.
+    pub fn check_by_sharing(&self, planner: Planner) {
+        self.check_with(planner, Reader::Sharing);
+    }
+
+    /// Where the output is not the stored one, it is kept in a file, which the failure names.
+    fn check_with(&self, planner: Planner, reader: Reader) {
+        let printed = run::output(planner, reader, self.cases)
             .unwrap_or_else(|words| panic!("{}.txt, {words}", self.name));
         if printed == self.output {
             return;
         }
-        let file = format!("{}.{planner:?}.out", self.name);
+        let file = format!("{}.{planner:?}.{reader:?}.out", self.name);
         let path = Path::new(env!("CARGO_TARGET_TMPDIR")).join(file);
         fs::write(&path, &printed).expect("the output is kept");
         panic!(

@@ -1,6 +1,6 @@
 //! Answers and tables as text. A table is a line that begins with two spaces.
 
-use uldhvamm::{Answer, Enquiry, Tables};
+use uldhvamm::{Answer, Enquiry, Sharing, Tables};
 use uldhvamm_bench::compare::hexadecimal;
 
 /// The most entries that are printed one by one.
@@ -13,6 +13,19 @@ pub fn answer(word: &str, answer: Answer) -> String {
             format!("{word} root {root} total {total} legs {legs}\n")
         }
         Answer::Refused { number, place } => format!("refused {number} at {place}\n"),
+    }
+}
+
+/// The answer to a sharing.
+pub fn sharing(sharing: Sharing) -> String {
+    match sharing {
+        Sharing::Shared {
+            root,
+            total,
+            legs,
+            unassigned,
+        } => format!("shared root {root} total {total} legs {legs} unassigned {unassigned}\n"),
+        Sharing::Refused { number, place } => format!("refused {number} at {place}\n"),
     }
 }
 
@@ -40,6 +53,11 @@ pub fn sheet_tables(tables: &Tables) -> String {
 /// The tables of the plan reader.
 pub fn reader_tables(tables: &Tables) -> String {
     sheet_tables(tables) + &table("marks", &tables.marks)
+}
+
+/// The tables of the sharing.
+pub fn sharing_tables(tables: &Tables) -> String {
+    reader_tables(tables) + &table("shares", &tables.shares)
 }
 
 /// The plan buffer in hexadecimal, and the tables of the engine.
