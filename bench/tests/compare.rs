@@ -6,7 +6,7 @@
 use uldhvamm::{CostTable, Lengths, Tables};
 use uldhvamm_bench::compare::{both, some_site_reaches_all, Call, Run};
 use uldhvamm_bench::reference;
-use uldhvamm_bench::sheets::{damaged, small_sheet, varied_file, wide_sheet};
+use uldhvamm_bench::sheets::{damaged, grown_plan, small_sheet, varied_file, wide_sheet};
 use uldhvamm_bench::sheets::{leg_records, PlanFile, Random, Sheet};
 
 /// How often each answer occurred; entry 0 is for plans and acceptances. Of the answers 12, those where some site that is no sender
@@ -110,6 +110,7 @@ fn varied(random: &mut Random, mut lengths: Lengths) -> Lengths {
         &mut lengths.places,
         &mut lengths.cells,
         &mut lengths.marks,
+        &mut lengths.shares,
     ];
     if changed == 1 {
         tables
@@ -117,7 +118,7 @@ fn varied(random: &mut Random, mut lengths: Lengths) -> Lengths {
             .for_each(|length| **length += random.below(4));
     }
     if changed == 2 {
-        let short = &mut *tables[random.below(8)];
+        let short = &mut *tables[random.below(9)];
         *short = short.saturating_sub(random.pick(&[1, 1, 1, 2, 1000]));
     }
     lengths
@@ -260,6 +261,90 @@ fn damaged_sheets_are_read_alike() {
     counts.require("files read against damaged sheets", &aims, 20);
 }
 
+/// What the stations of a sheet pay after an accepted sharing, and what of the file's total is left. Fails where `answer` has another
+/// unassigned sum.
+fn paid_and_left(sheet: &Sheet, file: &PlanFile, run: &Run) -> (u64, u64) {
+    let shares = &run.tables.shares[..usize::from(sheet.stations)];
+    let paid = shares.iter().map(|&share| u64::from(share)).sum();
+    let left = u64::from(file.total).checked_sub(paid);
+    let left = left.unwrap_or_else(|| panic!("{paid} paid for {file:?}, {sheet:?}"));
+    if let Some(&unassigned) = run.answer.get(3) {
+        assert_eq!(unassigned, left, "{file:?}, {sheet:?}");
+    }
+    (paid, left)
+}
+
+#[test]
+fn plan_files_are_shared_alike() {
+    let mut counts = Counts::new();
+    let mut plans = Counts::new();
+    for seed in 340_000..348_000 {
+        let random = &mut Random::new(seed);
+        let sheet = any_sheet(random);
+        let plan = plan_of(random, &mut plans, &sheet);
+        let bytes = sheet.bytes();
+        for _ in 0..6 {
+            let file = varied_file(random, &sheet, plan.as_ref());
+            let lengths = match random.once_in(8) {
+                true => varied(random, needed(&sheet)),
+                false => needed(&sheet),
+            };
+            let call = Call::Share(file.clone());
+            let run = check(random, &mut counts, &call, &bytes, lengths);
+            if run.number == 0 {
+                paid_and_left(&sheet, &PlanFile::from_bytes(&file), &run);
+            }
+        }
+    }
+    let aims = [0, 11, 14, 15, 16, 17, 18, 19, 20];
+    counts.require("plan files shared", &aims, 500);
+}
+
+/// Of a sheet's own plan nothing is left. Of its plan with further legs, and of other trees from its root, some is left now and then, or all.
+#[test]
+fn plans_and_dearer_trees_are_shared_alike() {
+    let mut counts = Counts::new();
+    let (mut whole, mut partly, mut unpaid) = (0, 0, 0);
+    for seed in 360_000..370_000 {
+        let random = &mut Random::new(seed);
+        let sheet = any_sheet(random);
+        let Some(plan) = plan_of(random, &mut counts, &sheet) else {
+            continue;
+        };
+        for (file, is_plan) in [(grown_plan(random, &sheet, &plan), false), (plan, true)] {
+            let (call, bytes) = (Call::Share(file.bytes()), sheet.bytes());
+            let run = check(random, &mut counts, &call, &bytes, needed(&sheet));
+            assert_eq!(run.number, 0, "{file:?}, {sheet:?}");
+            match paid_and_left(&sheet, &file, &run) {
+                (_, 0) => whole += usize::from(!is_plan),
+                _ if is_plan => panic!("the plan is not paid: {file:?}, {sheet:?}"),
+                (0, _) => unpaid += 1,
+                _ => partly += 1,
+            }
+        }
+    }
+    println!("dearer trees paid whole {whole}, in part {partly}, not at all {unpaid} times");
+    assert!(whole > 500 && partly > 500 && unpaid > 500);
+}
+
+#[test]
+fn damaged_sheets_are_shared_alike() {
+    let mut counts = Counts::new();
+    for seed in 420_000..430_000 {
+        let random = &mut Random::new(seed);
+        let sheet = small_sheet(random);
+        let bytes = damaged(random, &sheet);
+        let file = varied_file(random, &sheet, None);
+        let lengths = needed_by(&bytes, needed(&sheet));
+        let lengths = varied(random, lengths);
+        check(random, &mut counts, &Call::Share(file), &bytes, lengths);
+    }
+    let aims = [
+        0, 1, 2, 3, 4, 5, 6, 7, 9, 10, 11, 14, 15, 16, 17, 18, 19, 20,
+    ];
+    counts.require("files shared against damaged sheets", &aims, 20);
+}
+
 /// A sheet of 3 sites and 1 station with some legs.
 fn crowded(links: usize) -> Sheet {
     let legs = (0..links).map(|leg| (leg % 3) as u16);
@@ -293,9 +378,11 @@ fn the_limit_of_legs_is_kept_alike() {
         let lengths = Lengths::needed(3, 1, 8_193);
         let run = check(random, &mut counts, &Call::Plan, &bytes, lengths);
         assert_eq!(run.number, *number);
-        let file = Call::Read([&b"PN\0\x02\0\0\0\0\0\0"[..], &leg_records(&[])].concat());
-        let run = check(random, &mut counts, &file, &bytes, lengths);
-        assert_eq!(run.number, *number);
+        let file = [&b"PN\0\x02\0\0\0\0\0\0"[..], &leg_records(&[])].concat();
+        for call in [Call::Read(file.clone()), Call::Share(file)] {
+            let run = check(random, &mut counts, &call, &bytes, lengths);
+            assert_eq!(run.number, *number);
+        }
     }
     counts.require("sheets at the limit of legs", &[0, 4, 6, 7, 8], 2);
 }

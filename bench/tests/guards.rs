@@ -1,7 +1,7 @@
 //! The library writes nothing outside of the slices that it is lent: these are parts of larger tables, whose rest is looked at.
 
 use std::hint::black_box;
-use uldhvamm::{enquire, plan_lent, read_plan_lent};
+use uldhvamm::{enquire, plan_lent, read_plan_lent, shares_lent};
 use uldhvamm::{CostTable, Lengths, Lent, Tables, SENDER_FLAG};
 use uldhvamm_bench::compare::table_difference;
 use uldhvamm_bench::reference;
@@ -23,6 +23,7 @@ fn guarded(lengths: Lengths) -> Lengths {
         cells: longer(lengths.cells),
         marks: longer(lengths.marks),
         plan: longer(lengths.plan),
+        shares: longer(lengths.shares),
     }
 }
 
@@ -44,6 +45,7 @@ fn inner_parts(tables: &mut Tables) -> Lent<'_> {
         cells: inner(&mut tables.cells),
         marks: inner(&mut tables.marks),
         plan: inner(&mut tables.plan),
+        shares: inner(&mut tables.shares),
     }
 }
 
@@ -59,6 +61,7 @@ fn copy_inner(from: &mut Tables, to: &mut Tables) {
     to.cells.copy_from_slice(from.cells);
     to.marks.copy_from_slice(from.marks);
     to.plan.copy_from_slice(from.plan);
+    to.shares.copy_from_slice(from.shares);
 }
 
 /// Fails where the guards of `after` are not those of `before`.
@@ -66,6 +69,36 @@ fn check_guards(before: &Tables, mut after: Tables, sheet: &Sheet) {
     let mut expected = before.clone();
     copy_inner(&mut after, &mut expected);
     assert_eq!(table_difference(&after, &expected), None, "{sheet:?}");
+}
+
+/// Reads and shares the plan file of a sheet, and the file with a cent more, which is refused, each with answers of 0 to 5 entries.
+fn check_files(before: &Tables, sheet: &Sheet, file: &[u8]) {
+    let mut dearer = PlanFile::from_bytes(file);
+    dearer.total += 1;
+    for entries in 0..6 {
+        for (file, due) in [(file, 0), (&dearer.bytes(), 19)] {
+            check_file(before, sheet, read_plan_lent, (file, due), entries);
+            check_file(before, sheet, shares_lent, (file, due), entries);
+        }
+    }
+}
+
+/// Calls with a file and so many entries of an answer, and fails where another number than the one that is due is returned or a guard of a
+/// table or of the answer is written.
+fn check_file(
+    before: &Tables,
+    sheet: &Sheet,
+    called: fn(&[u8], &[u8], Lent, &mut [u64]) -> u32,
+    (file, due): (&[u8], u32),
+    entries: usize,
+) {
+    let (mut tables, mut answer) = (before.clone(), [5; 9]);
+    let lent = inner_parts(&mut tables);
+    let number = called(&sheet.bytes(), file, lent, &mut answer[2..2 + entries]);
+    assert_eq!(number, due, "{sheet:?}");
+    assert_eq!(answer[..2], [5; 2], "{sheet:?}");
+    assert!(answer[2 + entries..].iter().all(|&value| value == 5));
+    check_guards(before, tables, sheet);
 }
 
 #[test]
@@ -85,10 +118,7 @@ fn nothing_outside_is_written() {
         if number == 0 {
             plans += 1;
             let file = PlanFile::from_bytes(inner(&mut tables.plan)).bytes();
-            let mut reading = before.clone();
-            let lent = inner_parts(&mut reading);
-            assert_eq!(read_plan_lent(&bytes, &file, lent, &mut answer[2..3]), 0);
-            check_guards(&before, reading, &sheet);
+            check_files(&before, &sheet, &file);
         } else {
             refusals += 1;
         }

@@ -2,7 +2,10 @@
 
 use uldhvamm::{Lengths, Tables};
 use uldhvamm_bench::compare::{both, Call, Run};
-use uldhvamm_bench::sheets::{bad_reading, chain, filled_sheet, gated_row, grid, heard_often};
+use uldhvamm_bench::sheets::Leg;
+use uldhvamm_bench::sheets::{
+    bad_reading, chain, far_chain, filled_sheet, gated_row, grid, heard_often,
+};
 use uldhvamm_bench::sheets::{licensed, random_sheet, Chain, Order, PlanFile, Random, Sheet};
 
 /// Runs both with tables of garbage, a few entries longer than needed, and fails where they differ.
@@ -14,18 +17,28 @@ fn check(call: &Call, sheet: &Sheet) -> Run {
     lengths.cells += 5;
     lengths.marks += 3;
     lengths.plan += 9;
+    lengths.shares += 2;
     let tables = Tables::with(lengths, || random.bits());
-    let answer: Vec<u64> = (0..4).map(|_| random.bits()).collect();
+    let answer: Vec<u64> = (0..5).map(|_| random.bits()).collect();
     both(call, &sheet.bytes(), &tables, &answer).unwrap_or_else(|words| panic!("{words}"))
 }
 
-/// Plans a sheet and reads the plan; gives the number of legs.
+/// Plans a sheet, reads the plan and shares it out; gives the number of legs. The stations pay all of the plan.
 fn plan_and_read(sheet: &Sheet) -> usize {
     let run = check(&Call::Plan, sheet);
     assert_eq!(run.number, 0);
     let plan = PlanFile::from_bytes(&run.tables.plan);
     assert_eq!(check(&Call::Read(plan.bytes()), sheet).number, 0);
+    let shared = check(&Call::Share(plan.bytes()), sheet);
+    assert_eq!((shared.number, shared.answer[3]), (0, 0));
+    assert_eq!(paid(&shared, sheet), u64::from(plan.total));
     plan.legs.len()
+}
+
+/// The sum of the shares that a sharing has left.
+fn paid(shared: &Run, sheet: &Sheet) -> u64 {
+    let shares = &shared.tables.shares[..usize::from(sheet.stations)];
+    shares.iter().map(|&share| u64::from(share)).sum()
 }
 
 /// A chain of 1,024 sites and 10 stations, one leg a step, whose plan has every step.
@@ -113,7 +126,8 @@ fn licensed_sheets_are_planned_alike() {
     assert!(free.answer[1] < bound.answer[1]);
     assert!(plan_and_read(&sheet) > 9);
     let file = PlanFile::from_bytes(&free.tables.plan).bytes();
-    assert_eq!(check(&Call::Read(file), &sheet).number, 20);
+    assert_eq!(check(&Call::Read(file.clone()), &sheet).number, 20);
+    assert_eq!(check(&Call::Share(file), &sheet).number, 20);
 }
 
 /// From the first site of a chain alone legs lead to every station: with its licence there is the plan, with that of the last site alone
@@ -135,9 +149,54 @@ fn a_file_of_65535_legs_is_read_alike() {
     let sheet = whole_chain(Order::Rising);
     let file = bad_reading(1024);
     assert_eq!(file.legs.len(), 65_535);
-    let run = check(&Call::Read(file.bytes()), &sheet);
-    assert_eq!(run.number, 17);
-    assert!(run.tables.marks[..1024].iter().all(|&mark| mark == 1));
+    for call in [Call::Read(file.bytes()), Call::Share(file.bytes())] {
+        let run = check(&call, &sheet);
+        assert_eq!(run.number, 17);
+        assert!(run.tables.marks[..1024].iter().all(|&mark| mark == 1));
+    }
+}
+
+/// Each leg of the chain serves all ten stations, and so each pays a tenth of every leg, the first ones its odd cents.
+#[test]
+fn a_chain_to_all_stations_is_shared_alike() {
+    let sheet = far_chain(1024, 10);
+    assert_eq!(plan_and_read(&sheet), 1023);
+    let file = PlanFile::from_bytes(&check(&Call::Plan, &sheet).tables.plan);
+    let run = check(&Call::Share(file.bytes()), &sheet);
+    let prices = || sheet.legs().into_iter().map(|leg| leg.price);
+    let due: Vec<u32> = (0..10)
+        .map(|station| prices().map(|price| (price + 9 - station) / 10).sum())
+        .collect();
+    assert_eq!(run.tables.shares[..10], due);
+    assert!(due[0] > due[9]);
+}
+
+/// A tree of every site of a grid, which is not the plan: the legs of the first row, and those down each column. What leads past the last
+/// seat of a column is unassigned.
+#[test]
+fn a_tree_of_a_whole_grid_is_shared_alike() {
+    let sheet = grid(4, 32, 10, Order::Mixed);
+    let (file, run) = shared_comb(&sheet, 32);
+    assert_eq!((run.number, file.legs.len()), (0, 1023));
+    assert!(run.answer[3] > 0 && paid(&run, &sheet) > 0);
+    assert_eq!(paid(&run, &sheet) + run.answer[3], u64::from(file.total));
+}
+
+/// The file of the tree of all sites of a square whose legs go along the first row and down each column, and what its sharing leaves.
+fn shared_comb(sheet: &Sheet, side: u16) -> (PlanFile, Run) {
+    let legs = sheet.legs();
+    let along = |leg: &Leg| leg.to < side && leg.to == leg.from + 1;
+    let down = |leg: &Leg| leg.to == leg.from + side;
+    let listed = (0..legs.len()).filter(|&leg| along(&legs[leg]) || down(&legs[leg]));
+    let listed: Vec<u16> = listed.map(|leg| leg as u16).collect();
+    let total = listed.iter().map(|&leg| legs[usize::from(leg)].price).sum();
+    let file = PlanFile {
+        root: 0,
+        total,
+        legs: listed,
+    };
+    let run = check(&Call::Share(file.bytes()), sheet);
+    (file, run)
 }
 
 #[test]
@@ -145,6 +204,10 @@ fn dear_chains_are_planned_alike() {
     let links = (0..1023).fold(Sheet::new(1024, 2), |sheet, from| {
         sheet.link(from, from + 1, 1_000_000)
     });
-    let run = check(&Call::Plan, &links.landing(0, 0).landing(1, 1023));
+    let sheet = links.landing(0, 0).landing(1, 1023);
+    let run = check(&Call::Plan, &sheet);
     assert_eq!((run.number, run.answer[1]), (0, 1_023_000_000));
+    let file = PlanFile::from_bytes(&run.tables.plan).bytes();
+    let shared = check(&Call::Share(file), &sheet);
+    assert_eq!(shared.tables.shares[..2], [0, 1_023_000_000]);
 }

@@ -5,7 +5,9 @@ use uldhvamm::enquire;
 use uldhvamm::{CostTable, Lengths, Question, Tables};
 use uldhvamm_bench::compare::{call_library, call_reference, difference, Call, Run};
 use uldhvamm_bench::reference;
-use uldhvamm_bench::sheets::{chain, licensed, random_sheet, Chain, Order, Random, Sheet};
+use uldhvamm_bench::sheets::{
+    chain, far_chain, licensed, random_sheet, Chain, Order, Random, Sheet,
+};
 
 const STACK: usize = 56 * 1024;
 
@@ -34,7 +36,7 @@ fn check(call: &Call, sheet: &Sheet) -> Run {
     let bytes = sheet.bytes();
     let before = Run {
         number: u32::MAX,
-        answer: vec![7; 3],
+        answer: vec![7; 4],
         tables: garbage(sheet),
     };
     let (mut library, mut reference) = (before.clone(), before);
@@ -46,13 +48,14 @@ fn check(call: &Call, sheet: &Sheet) -> Run {
     library
 }
 
-/// Plans a sheet and reads the plan.
+/// Plans a sheet, reads the plan and shares it out.
 fn plan_and_read(sheet: &Sheet) -> u64 {
     let planned = check(&Call::Plan, sheet);
     assert_eq!(planned.number, 0);
     let length = 10 + 4 * planned.answer[2] as usize;
     let file = planned.tables.plan[..length].to_vec();
-    assert_eq!(check(&Call::Read(file), sheet).number, 0);
+    assert_eq!(check(&Call::Read(file.clone()), sheet).number, 0);
+    assert_eq!(check(&Call::Share(file), sheet).number, 0);
     planned.answer[2]
 }
 
@@ -66,6 +69,11 @@ fn a_chain_needs_little_stack() {
         whole: true,
     };
     assert_eq!(plan_and_read(&chain(3, shape)), 1023);
+}
+
+#[test]
+fn a_chain_to_all_stations_needs_little_stack() {
+    assert_eq!(plan_and_read(&far_chain(1024, 10)), 1023);
 }
 
 #[test]

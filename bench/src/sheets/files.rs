@@ -67,28 +67,49 @@ pub fn varied_file(random: &mut Random, sheet: &Sheet, plan: Option<&PlanFile>) 
     bytes
 }
 
+/// A tree that the plan of a sheet is changed to: the plan with further legs, or another tree from its root, which reaches all that the root
+/// reaches. So it is accepted, and mostly dearer than the plan.
+pub fn grown_plan(random: &mut Random, sheet: &Sheet, plan: &PlanFile) -> PlanFile {
+    let mut tree = plan.clone();
+    if random.once_in(2) {
+        tree.legs.clear();
+    }
+    let legs = sheet.legs();
+    let mut sites = 0;
+    while sites != tree.legs.len() + 1 {
+        sites = tree.legs.len() + 1;
+        tree = grown(random, &legs, tree);
+    }
+    tree
+}
+
 /// A tree grown leg by leg from a random root, with its true total.
 fn grown_tree(random: &mut Random, sheet: &Sheet, legs: &[Leg]) -> PlanFile {
     let root = random.below(usize::from(sheet.sites)) as u16;
+    let tree = PlanFile {
+        root,
+        total: 0,
+        legs: Vec::new(),
+    };
+    grown(random, legs, tree)
+}
+
+/// A tree with further legs, each from a site that it holds to one that it does not hold, in random order and with its true total.
+fn grown(random: &mut Random, legs: &[Leg], mut tree: PlanFile) -> PlanFile {
     let mut numbers: Vec<u16> = (0..legs.len() as u16).collect();
-    let mut held = vec![root];
-    let mut listed = Vec::new();
+    let mut held = vec![tree.root];
+    held.extend(tree.legs.iter().map(|&leg| legs[usize::from(leg)].to));
     for _ in 0..random.between(1, 4) {
         random.shuffle(&mut numbers);
         for &number in &numbers {
             let leg = legs[usize::from(number)];
             if held.contains(&leg.from) && !held.contains(&leg.to) {
                 held.push(leg.to);
-                listed.push(number);
+                tree.legs.push(number);
             }
         }
     }
-    random.shuffle(&mut listed);
-    let tree = PlanFile {
-        root,
-        total: 0,
-        legs: listed,
-    };
+    random.shuffle(&mut tree.legs);
     tree.with_true_total(legs)
 }
 

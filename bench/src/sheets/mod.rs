@@ -8,7 +8,7 @@ mod random;
 mod small;
 
 pub use damage::damaged;
-pub use files::{leg_records, varied_file, PlanFile};
+pub use files::{grown_plan, leg_records, varied_file, PlanFile};
 pub use large::{
     among_some, bad_reading, chain, far_chain, filled_sheet, gated_row, grid, heard_often,
     licensed, random_sheet,

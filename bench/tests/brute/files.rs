@@ -1,5 +1,6 @@
 //! Every list of at most four legs of a sheet, with repeats and in every order, as a plan file: each entry is a leg of the sheet or the
-//! first number that is none, and each list is tried with each site as the root and with the first number that is no site.
+//! first number that is none, and each list is tried with each site as the root and with the first number that is no site. Each file is read
+//! and shared.
 
 use crate::lent::{Left, BEFORE};
 use crate::trees::Small;
@@ -56,14 +57,18 @@ impl Reading<'_> {
         let total = known.map(|&leg| self.small.legs[leg].price).sum();
         for root in 0..=self.small.sites {
             let file = file_of(root, total, list);
-            if self.try_file(&file, self.due(root, total, list), counts) == 0 {
-                let more = file_of(root, total + 1, list);
-                self.try_file(&more, self.due(root, total + 1, list), counts);
-                let cut = &file[..file.len() - 1];
-                self.try_file(cut, self.filled.clone().refused(14, 0), counts);
-                let longer = [&file[..], &[0]].concat();
-                self.try_file(&longer, self.filled.clone().refused(15, file.len()), counts);
+            let due = self.due(root, total, list);
+            if self.try_file(&file, &due, counts) != 0 {
+                self.try_sharing(&file, due);
+                continue;
             }
+            self.try_shares(&file, due, (root, list), counts);
+            let more = file_of(root, total + 1, list);
+            self.try_refused(&more, self.due(root, total + 1, list), counts);
+            let cut = &file[..file.len() - 1];
+            self.try_refused(cut, self.filled.clone().refused(14, 0), counts);
+            let longer = [&file[..], &[0]].concat();
+            self.try_refused(&longer, self.filled.clone().refused(15, file.len()), counts);
         }
     }
 
@@ -76,8 +81,13 @@ impl Reading<'_> {
                 let mut list = Vec::new();
                 small.lay_out(cells, root, full, &mut list);
                 let file = file_of(root, total, &list);
-                let number = self.try_file(&file, self.due(root, total, &list), counts);
+                let due = self.due(root, total, &list);
+                let number = self.try_file(&file, &due, counts);
                 assert_eq!(number, if small.may_send(root) { 0 } else { 20 });
+                match number {
+                    0 => assert_eq!(self.try_shares(&file, due, (root, &list), counts), 0),
+                    _ => self.try_sharing(&file, due),
+                }
             }
         }
     }
@@ -102,12 +112,41 @@ impl Reading<'_> {
     }
 
     /// Reads a file and compares all that is left with what is due. Gives the number that was returned.
-    pub fn try_file(&self, file: &[u8], due: Left, counts: &mut Counts) -> u32 {
+    fn try_file(&self, file: &[u8], due: &Left, counts: &mut Counts) -> u32 {
         let left = Left::of_reading(self.bytes, file);
-        assert_eq!(left, due, "sheet {:?}, file {file:?}", self.bytes);
+        assert_eq!(&left, due, "sheet {:?}, file {file:?}", self.bytes);
         counts.files += 1;
         counts.answers[left.number as usize] += 1;
         left.number
+    }
+
+    /// Reads and shares a file that is refused; the sharing is to leave the same.
+    fn try_refused(&self, file: &[u8], due: Left, counts: &mut Counts) {
+        assert_ne!(self.try_file(file, &due, counts), 0);
+        self.try_sharing(file, due);
+    }
+
+    /// Shares an accepted file of a root and a list, of which `due` is what its reading leaves. The shares and the unassigned sum, which is
+    /// given, make the total.
+    fn try_shares(
+        &self,
+        file: &[u8],
+        due: Left,
+        (root, list): (usize, &[usize]),
+        counts: &mut Counts,
+    ) -> u32 {
+        let sites = self.small.held(root, list).expect("the file is accepted");
+        let shares = self.small.shares(sites, list);
+        assert_eq!(shares.sum(), self.small.sum(list));
+        counts.add_shares(&shares);
+        self.try_sharing(file, due.shared(&shares.of_stations, shares.unassigned));
+        shares.unassigned
+    }
+
+    /// Shares a file and compares all that is left with what is due.
+    fn try_sharing(&self, file: &[u8], due: Left) {
+        let left = Left::of_sharing(self.bytes, file);
+        assert_eq!(left, due, "sheet {:?}, shared file {file:?}", self.bytes);
     }
 }
 

@@ -1,6 +1,7 @@
-//! What is lent to a call on a small sheet: each table has two entries more than any sheet of the family needs.
+//! What is lent to a call on a small sheet: each table has two entries more than any sheet of the family needs, the answer one more than any
+//! call writes.
 
-use uldhvamm::{plan_lent, read_plan_lent, CostTable, Lent};
+use uldhvamm::{plan_lent, read_plan_lent, shares_lent, CostTable, Lent};
 
 use crate::trees::Small;
 
@@ -8,7 +9,7 @@ use crate::trees::Small;
 #[derive(Clone, Debug, PartialEq, Eq)]
 pub struct Left {
     pub number: u32,
-    pub answer: [u64; 4],
+    pub answer: [u64; 5],
     pub starts: [u16; 8],
     pub ends: [u16; 8],
     pub prices: [u32; 8],
@@ -18,12 +19,13 @@ pub struct Left {
     pub cells: [u32; 34],
     pub marks: [u8; 6],
     pub plan: [u8; 24],
+    pub shares: [u32; 5],
 }
 
 /// What is lent, before a call: values that no sheet and no plan has. The landing entries have every bit, a sender's too.
 pub const BEFORE: Left = Left {
     number: 0,
-    answer: [77; 4],
+    answer: [77; 5],
     starts: [60_001; 8],
     ends: [60_002; 8],
     prices: [4_000_000_003; 8],
@@ -33,6 +35,7 @@ pub const BEFORE: Left = Left {
     cells: [4_000_000_005; 34],
     marks: [9; 6],
     plan: [238; 24],
+    shares: [4_000_000_007; 5],
 };
 
 impl Left {
@@ -54,6 +57,15 @@ impl Left {
         left
     }
 
+    /// What the sharing leaves.
+    pub fn of_sharing(sheet: &[u8], file: &[u8]) -> Left {
+        let mut left = BEFORE;
+        let mut answer = left.answer;
+        left.number = shares_lent(sheet, file, left.lend(), &mut answer);
+        left.answer = answer;
+        left
+    }
+
     fn lend(&mut self) -> Lent<'_> {
         Lent {
             starts: &mut self.starts,
@@ -65,6 +77,7 @@ impl Left {
             cells: &mut self.cells,
             marks: &mut self.marks,
             plan: &mut self.plan,
+            shares: &mut self.shares,
         }
     }
 
@@ -88,6 +101,13 @@ impl Left {
     /// A plan or an acceptance, with its root, total and number of legs.
     pub fn planned(mut self, root: usize, total: u32, legs: usize) -> Left {
         self.answer[..3].copy_from_slice(&[root as u64, u64::from(total), legs as u64]);
+        self
+    }
+
+    /// The shares of an accepted file, and the unassigned sum behind its other values.
+    pub fn shared(mut self, shares: &[u32], unassigned: u32) -> Left {
+        self.shares[..shares.len()].copy_from_slice(shares);
+        self.answer[3] = u64::from(unassigned);
         self
     }
 

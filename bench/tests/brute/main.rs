@@ -1,15 +1,18 @@
 //! The library against a trial of everything: on each of 6,000 small sheets, without `SR` and with every set of senders, the engine's
 //! answer, tables and plan file against all trees and the rule, the best sender of each set of stations against the trees, and, with one
-//! drawn set of senders, every list of at most four legs as a plan file. All that is lent is compared after each call.
+//! drawn set of senders, every list of at most four legs as a plan file, with the shares of each that is accepted against their definition. All
+//! that is lent is compared after each call.
 
 mod family;
 mod files;
 mod lent;
+mod shares;
 mod trees;
 
 use family::{has_both, has_parallel, has_repeat, has_sender_repeat, has_several, Generator};
 use files::{file_of, Reading};
 use lent::{Left, BEFORE};
+use shares::Shares;
 use std::collections::BTreeSet;
 use trees::{Small, Tree};
 use uldhvamm::{answer_to_question, answer_to_sheet, Answer, Enquiry, Question, Tables};
@@ -39,6 +42,10 @@ pub struct Counts {
     files: usize,
     /// The plan reader's answers by their numbers; acceptances are at 0.
     answers: [usize; 21],
+    /// Accepted files by what is unassigned: nothing, a part of the total, all of a total that is not 0.
+    unassigned: [usize; 3],
+    /// Accepted files of which two stations that pay something pay differently.
+    unequal: usize,
 }
 
 impl Counts {
@@ -60,6 +67,20 @@ impl Counts {
                 self.ties += usize::from(trees > 1);
             }
         }
+    }
+}
+
+impl Counts {
+    /// Counts the shares of an accepted file.
+    fn add_shares(&mut self, shares: &Shares) {
+        let kind = match shares.unassigned {
+            0 => 0,
+            sum if sum < shares.sum() => 1,
+            _ => 2,
+        };
+        self.unassigned[kind] += 1;
+        let paid = || shares.of_stations.iter().filter(|&&share| share > 0);
+        self.unequal += usize::from(paid().max() != paid().min());
     }
 }
 
@@ -152,6 +173,8 @@ fn tried() -> Counts {
         lists: 5_998_720,
         files: 24_840_979,
         answers,
+        unassigned: [75_036, 12_550, 6_794],
+        unequal: 16_402,
     }
 }
 

@@ -43,6 +43,7 @@ mod generated;
 mod notation;
 mod planner;
 mod run;
+mod sharing;
 mod stored;
 mod text;
 

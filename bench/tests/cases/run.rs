@@ -3,9 +3,10 @@
 use crate::fields::{cells, landings, lengths, named, named_numbers, named_text, number};
 use crate::notation::bytes;
 use crate::planner::Planner;
+use crate::sharing;
 use crate::text;
 use std::collections::{BTreeMap, BTreeSet};
-use uldhvamm::{Answer, CostTable, Lengths, Question, Sharing, Tables, MAX_SITES};
+use uldhvamm::{Answer, CostTable, Lengths, Question, Tables, MAX_SITES};
 
 /// Tables without entries.
 const EMPTY: Lengths = Lengths {
@@ -23,9 +24,6 @@ const EMPTY: Lengths = Lengths {
 
 /// A mark before a call.
 const MARK: u8 = 9;
-
-/// A share before a call.
-const SHARE: u32 = 4_000_000_007;
 
 /// What runs the `read` lines: the plan reader, or the sharing, which is to answer the same and to leave the same in the reader's tables.
 #[derive(Clone, Copy, Debug)]
@@ -200,28 +198,12 @@ impl Runner {
             Reader::Reading => self
                 .planner
                 .read(&self.sheet, &file, &mut tables, self.lent),
-            Reader::Sharing => self.read_by_sharing(&file, &mut tables)?,
+            Reader::Sharing => {
+                sharing::read(self.planner, &self.sheet, &file, &mut tables, self.lent)?
+            }
         };
         let printed = text::answer("accepted", answer) + &text::reader_tables(&tables);
         self.print(name, &printed)
-    }
-
-    /// Reads a plan file by the sharing. On acceptance the shares of the sheet's stations are to be written, and to make the total with the
-    /// unassigned sum; no other share is to be written.
-    fn read_by_sharing(&self, file: &[u8], tables: &mut Tables) -> Result<Answer, String> {
-        let sharing = self.planner.share(&self.sheet, file, tables, self.lent);
-        let stations = match sharing {
-            Sharing::Shared { .. } => usize::from(self.sheet[4]),
-            Sharing::Refused { .. } => 0,
-        };
-        let (written, others) = tables.shares.split_at(stations);
-        let paid: u64 = written.iter().map(|&share| u64::from(share)).sum();
-        let others_kept = others.iter().all(|&share| share == SHARE);
-        let (answer, all_paid) = read_answer(sharing, paid);
-        match others_kept && all_paid {
-            true => Ok(answer),
-            false => Err(format!("{sharing:?} with the shares {:?}", tables.shares)),
-        }
     }
 
     /// `share`.
@@ -259,7 +241,7 @@ impl Runner {
             cells: vec![self.fill; self.lengths.cells],
             marks: vec![MARK; self.lengths.marks],
             plan: vec![238; self.lengths.plan],
-            shares: vec![SHARE; self.lengths.shares],
+            shares: vec![4_000_000_007; self.lengths.shares],
         }
     }
 
@@ -325,22 +307,5 @@ impl Runner {
         }
         self.output += &format!("{name}: {text}");
         Ok(())
-    }
-}
-
-/// The answer that the plan reader is to give where the sharing gives this one, and whether so many cents paid make the total with the
-/// unassigned sum.
-fn read_answer(sharing: Sharing, paid: u64) -> (Answer, bool) {
-    match sharing {
-        Sharing::Shared {
-            root,
-            total,
-            legs,
-            unassigned,
-        } => (
-            Answer::Plan { root, total, legs },
-            paid + unassigned == total,
-        ),
-        Sharing::Refused { number, place } => (Answer::Refused { number, place }, true),
     }
 }
