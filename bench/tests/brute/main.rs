@@ -68,9 +68,7 @@ impl Counts {
             }
         }
     }
-}
 
-impl Counts {
     /// Counts the shares of an accepted file.
     fn add_shares(&mut self, shares: &Shares) {
         let kind = match shares.unassigned {
