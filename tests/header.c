@@ -1,7 +1,8 @@
 /*
- * The header as C: plans sheet A of document 01, asks about its cost table and two smaller ones, reads the plan file back, changes its
- * total and sets it back, plans an empty sheet, plans with tables of the index that are one entry short or two longer and with a short
- * buffer, and plans and reads with a licence for site 1 alone. After each planning it prints the two tables of the index whole.
+ * The header as C: plans sheet A of document 01, asks about its cost table and two smaller ones, reads the plan file back and shares it out,
+ * changes its total and sets it back, shares with a table that is one entry short or two longer and with a leg that serves no station, plans
+ * an empty sheet, plans with tables of the index that are one entry short or two longer and with a short buffer, and plans, reads and shares
+ * with a licence for site 1 alone. After each planning it prints the two tables of the index whole, after each sharing the share table.
  * tests/outside compiles it, links it with libuldhvamm.a, and compares what it prints.
  */
 #include "uldhvamm.h"
@@ -40,9 +41,9 @@ static uint8_t sheet[sizeof sheet_a + sizeof licence];
 static size_t sheet_length;
 
 static uint16_t starts[LEGS], ends[LEGS], landings[SITES], by_end[LEGS + MORE], places[SITES + 1 + MORE];
-static uint32_t prices[LEGS], cells[SITES << STATIONS];
+static uint32_t prices[LEGS], cells[SITES << STATIONS], shares[STATIONS + MORE];
 static uint8_t marks[SITES], plan[PLAN_BYTES];
-static uint64_t answer[3];
+static uint64_t answer[4];
 
 /* Puts numbers that no sheet gives into the tables of the index. */
 static void spoil_index(void)
@@ -69,6 +70,17 @@ static uint32_t read_plan(void)
 {
     return uldhvamm_read_plan(sheet, sheet_length, plan, PLAN_BYTES, starts, LEGS, ends, LEGS, prices, LEGS, landings, SITES, marks,
                               SITES, answer, 3);
+}
+
+/* Shares the plan buffer out, with so many entries of the share table, which holds strange numbers before. */
+static uint32_t share_with(size_t entries)
+{
+    size_t i;
+    for (i = 0; i < STATIONS + MORE; i++) {
+        shares[i] = 4000000007U;
+    }
+    return uldhvamm_shares(sheet, sheet_length, plan, PLAN_BYTES, starts, LEGS, ends, LEGS, prices, LEGS, landings, SITES, marks, SITES,
+                           shares, entries, answer, 4);
 }
 
 /* Prints what was returned, and the answer. */
@@ -98,6 +110,22 @@ static void print_plan(const char *name, size_t leg_entries, size_t place_entrie
     print_answer(name, plan_with(leg_entries, place_entries, bytes));
     print_table("by_end", by_end, LEGS + MORE);
     print_table("places", places, SITES + 1 + MORE);
+}
+
+/* Shares the plan buffer out in this way, and prints the answer and the share table. */
+static void print_shares(const char *name, size_t entries)
+{
+    size_t i;
+    uint32_t number = share_with(entries);
+    print_answer(name, number);
+    if (number == 0) {
+        printf("  unassigned %u\n", (unsigned)answer[3]);
+    }
+    printf("  shares");
+    for (i = 0; i < STATIONS + MORE; i++) {
+        printf(" %u", (unsigned)shares[i]);
+    }
+    printf("\n");
 }
 
 /* Prints what the enquirer returned, and the answer; `none` is the answer that stands for "none". */
@@ -150,6 +178,27 @@ static void enquire(void)
                   ULDHVAMM_NO_SENDER);
 }
 
+/*
+ * Shares A's plan with a share table just long enough, one entry short and two longer, with a false total, and then the tree of legs 3, 0
+ * and 4 for 15 cents, in which leg 0 serves no station. The plan buffer is left as it was.
+ */
+static void try_shares(void)
+{
+    uint8_t kept[PLAN_BYTES];
+    memcpy(kept, plan, PLAN_BYTES);
+    print_shares("shares", STATIONS);
+    print_shares("shares, table one entry short", STATIONS - 1);
+    print_shares("shares, longer table", STATIONS + MORE);
+    plan[7] = 11;
+    print_shares("shares, false total", STATIONS);
+    plan[7] = 15;
+    plan[13] = 3;
+    plan[17] = 0;
+    plan[21] = 4;
+    print_shares("shares, a leg for no station", STATIONS);
+    memcpy(plan, kept, PLAN_BYTES);
+}
+
 /* Plans with each table of the index one entry short, with both two entries longer, and with a buffer that is one byte short. */
 static void try_lengths(void)
 {
@@ -173,6 +222,7 @@ static void try_licence(void)
     ask_for_sender("sender of subset 3", SITES << STATIONS, SITES, STATIONS, 3);
     ask_for_sender("sender of subset 7", SITES << STATIONS, SITES, STATIONS, 7);
     print_answer("read with one sender", read_plan());
+    print_shares("shares with one sender", STATIONS);
 }
 
 /* Prints the legs in the plan buffer. */
@@ -197,6 +247,7 @@ int main(void)
     plan[7] = 11;
     printf("false total: %s\n", read_plan() == ULDHVAMM_FALSE_TOTAL ? "as named" : "another number");
     plan[7] = 10;
+    try_shares();
     try_lengths();
     sheet_length = 0;
     print_plan("empty", LEGS, SITES + 1, PLAN_BYTES);
