@@ -15,7 +15,7 @@ from worked import FILE_K, FILE_L, FILE_OF_A, SHEETS
 
 NONE = 4294967295
 
-# The tables in the header's order, with their entries.
+# The tables in the header's order, with the types of their entries.
 ENTRIES = {
     "starts": ctypes.c_uint16,
     "ends": ctypes.c_uint16,
@@ -26,11 +26,13 @@ ENTRIES = {
     "cells": ctypes.c_uint32,
     "marks": ctypes.c_uint8,
     "plan": ctypes.c_uint8,
+    "shares": ctypes.c_uint32,
     "answer": ctypes.c_uint64,
 }
 
-# Those that the plan reader is not lent.
+# Those that only the engine is lent, and those that each function is not lent.
 ENGINE_ONLY = ("by_end", "places", "cells", "plan")
+NOT_LENT = {"plan": ("shares",), "read_plan": (*ENGINE_ONLY, "shares"), "shares": ENGINE_ONLY}
 
 # What sheets A and E leave in the tables, and A with the record `SR 1` before its end.
 LEGS_OF_A = {"starts": [0, 1, 1, 0, 0], "ends": [1, 2, 3, 2, 3], "prices": [4, 3, 3, 5, 6], "landings": [1028, 1024, 1025, 1026]}
@@ -47,7 +49,7 @@ A_WITH_SENDER = SHEETS["A"][:-2] + b"SR\0\x01ED"
 LEGS_WITH_SENDER = {**LEGS_OF_A, "landings": [4, 1024, 1, 2]}
 
 # The least lengths for sheet A, and its plan file's.
-NEEDED = {"starts": 5, "ends": 5, "prices": 5, "landings": 4, "by_end": 5, "places": 5, "cells": 32, "marks": 4, "plan": 22}
+NEEDED = {"starts": 5, "ends": 5, "prices": 5, "landings": 4, "by_end": 5, "places": 5, "cells": 32, "marks": 4, "plan": 22, "shares": 3}
 
 
 def over(first: list[int], entries: list[int]) -> list[int]:
@@ -62,16 +64,15 @@ class Native(unittest.TestCase):
         self.functions = functions_of(default_path())
         self.chance = random.Random(6)
 
-    def call(self, sheet: bytes, file: Optional[bytes], lengths: dict[str, int]) -> tuple[int, dict[str, list[int]], dict[str, list[int]]]:
-        """Plans a sheet, or reads a file where one is given. The number that is returned, and the arrays before and after."""
+    def call(self, function: str, strings: list[bytes], lengths: dict[str, int]) -> tuple[int, dict[str, list[int]], dict[str, list[int]]]:
+        """Calls a function with a sheet, or with a sheet and a file. The number that is returned, and the arrays before and after."""
         arrays: dict[str, Any] = {name: self.garbage(entry, lengths[name] + 3) for name, entry in ENTRIES.items()}
         before = {name: list(array) for name, array in arrays.items()}
-        strings = [sheet] if file is None else [sheet, file]
         arguments: list[Any] = [part for string in strings for part in (string, len(string))]
         for name in ENTRIES:
-            if file is None or name not in ENGINE_ONLY:
+            if name not in NOT_LENT[function]:
                 arguments += [arrays[name], lengths[name]]
-        number = (self.functions.plan if file is None else self.functions.read_plan)(*arguments)
+        number = getattr(self.functions, function)(*arguments)
         return number, before, {name: list(array) for name, array in arrays.items()}
 
     def garbage(self, entry: Any, length: int) -> Any:
@@ -81,12 +82,26 @@ class Native(unittest.TestCase):
     def tried(
         self, sheet: bytes, file: Optional[bytes], number: int, values: list[int], written: dict[str, list[int]], **other: int
     ) -> None:
-        """Tests a call with answers of 0 to 4 entries: its number, the values in the answer, what is written, and that no more is."""
-        for length in range(5):
-            returned, before, after = self.call(sheet, file, {**NEEDED, **other, "answer": length})
-            self.assertEqual(returned, number, other)
+        """Tests the planning of a sheet or, where a file is given, the reading of that file."""
+        if file is None:
+            self.compared("plan", [sheet], number, values, written, other)
+        else:
+            self.compared("read_plan", [sheet, file], number, values, written, other)
+
+    def shared(self, sheet: bytes, file: bytes, number: int, values: list[int], written: dict[str, list[int]], **other: int) -> None:
+        """Tests the sharing of a file."""
+        self.compared("shares", [sheet, file], number, values, written, other)
+
+    def compared(
+        self, function: str, strings: list[bytes], number: int, values: list[int], written: dict[str, list[int]], other: dict[str, int]
+    ) -> None:
+        """Tests a call with answers of 0 to 5 entries: its number, the values in the answer, what is written, and that no more is."""
+        for length in range(6):
+            returned, before, after = self.call(function, strings, {**NEEDED, **other, "answer": length})
+            self.assertEqual(returned, number, (function, other))
             expected = {**written, "answer": values[:length]}
-            self.assertEqual(after, {name: over(expected.get(name, []), entries) for name, entries in before.items()}, (length, other))
+            kept = {name: over(expected.get(name, []), entries) for name, entries in before.items()}
+            self.assertEqual(after, kept, (function, length, other))
 
     def test_the_interface(self) -> None:
         self.assertEqual(ctypes.CDLL(str(default_path().absolute())).uldhvamm_interface(), INTERFACE)
@@ -97,6 +112,12 @@ class Native(unittest.TestCase):
 
     def test_a_library_without_an_interface_is_refused(self) -> None:
         with mock.patch("ctypes.CDLL", return_value=object()), self.assertRaises(ImportError):
+            functions_of(default_path())
+
+    def test_a_library_that_lacks_a_function_is_refused(self) -> None:
+        lacking = mock.Mock(spec=["uldhvamm_interface", "uldhvamm_plan", "uldhvamm_read_plan", "uldhvamm_cell", "uldhvamm_best_sender"])
+        lacking.uldhvamm_interface.return_value = INTERFACE
+        with mock.patch("ctypes.CDLL", return_value=lacking), self.assertRaisesRegex(ImportError, "uldhvamm_shares"):
             functions_of(default_path())
 
     def test_a_plan(self) -> None:
@@ -138,7 +159,7 @@ class Native(unittest.TestCase):
             sheet = build_sheet(sites, 1, [*legs, Landing(0, 0)])
             for_legs = dict.fromkeys(["starts", "ends", "prices", "by_end"], len(legs))
             for_sites = {"landings": sites, "places": sites + 1, "cells": 2 * sites, "marks": sites}
-            number, before, after = self.call(sheet, None, {**NEEDED, **for_legs, **for_sites, "answer": 3})
+            number, before, after = self.call("plan", [sheet], {**NEEDED, **for_legs, **for_sites, "answer": 3})
             by_end = sorted(range(len(legs)), key=lambda leg: legs[leg].end)
             places = [sum(leg.end < site for leg in legs) for site in range(sites + 1)]
             self.assertEqual(number, 0)
@@ -162,14 +183,43 @@ class Native(unittest.TestCase):
         self.tried(A_WITH_SENDER, FILE_K, 17, [0], marked)
         self.tried(A_WITH_SENDER, build_plan(0, 7, [0, 1]), 20, [0], {**marked, "marks": [1, 1, 1, 0]})
 
+    def test_shares(self) -> None:
+        marked = {**LEGS_OF_A, "marks": [1, 1, 1, 1]}
+        longer = {name: length + 2 for name, length in NEEDED.items()}
+        for lengths in [NEEDED, longer]:
+            self.shared(SHEETS["A"], FILE_OF_A, 0, [0, 10, 3, 0], {**marked, "shares": [5, 5, 0]}, **lengths)
+            self.shared(SHEETS["A"], build_plan(0, 15, [0, 3, 4]), 0, [0, 15, 3, 4], {**marked, "shares": [5, 6, 0]}, **lengths)
+        self.shared(SHEETS["B"], build_plan(0, 0, []), 0, [0, 0, 0, 0], {"landings": [1025], "marks": [1], "shares": [0]}, shares=1)
+
+    def test_refusals_leave_the_shares(self) -> None:
+        marked = {**LEGS_OF_A, "marks": [1, 1, 1, 1]}
+        for name, number, place in [("F", 7, 5), ("I", 1, 0), ("J", 9, 12)]:
+            self.shared(SHEETS[name], FILE_OF_A, number, [place], {})
+            self.shared(SHEETS[name], FILE_OF_A, number, [place], {}, shares=0)
+        self.shared(SHEETS["A"], b"", 14, [0], LEGS_OF_A)
+        self.shared(SHEETS["A"], FILE_OF_A + b"\0", 15, [22], LEGS_OF_A)
+        self.shared(SHEETS["A"], build_plan(0, 10, [0, 5]), 16, [14], LEGS_OF_A)
+        self.shared(SHEETS["A"], FILE_K, 17, [0], marked)
+        self.shared(SHEETS["A"], build_plan(0, 7, [0, 1]), 18, [0], {**LEGS_OF_A, "marks": [1, 1, 1, 0]})
+        self.shared(SHEETS["A"], FILE_L, 19, [0], marked)
+        self.shared(A_WITH_SENDER, FILE_OF_A, 20, [0], {**LEGS_WITH_SENDER, "marks": [1, 1, 1, 1]})
+
+    def test_short_tables_leave_the_shares(self) -> None:
+        for name in ["starts", "ends", "prices", "landings", "marks", "shares"]:
+            for length in [0, NEEDED[name] - 1]:
+                for file in [FILE_OF_A, b"", FILE_K]:
+                    self.shared(SHEETS["A"], file, 11, [0], {}, **{name: length})
+
     def test_null_pointers_for_empty_tables(self) -> None:
         empty: list[Any] = [None, 0]
         answer = (ctypes.c_uint64 * 3)(9, 9, 9)
         self.assertEqual(self.functions.plan(*empty * 10, answer, 3), 1)
         self.assertEqual(self.functions.read_plan(*empty * 7, answer, 3), 1)
+        self.assertEqual(self.functions.shares(*empty * 8, answer, 3), 1)
         self.assertEqual(list(answer), [0, 9, 9])
         self.assertEqual(self.functions.plan(SHEETS["A"], 72, *empty * 10), 11)
         self.assertEqual(self.functions.read_plan(SHEETS["A"], 72, *empty * 7), 11)
+        self.assertEqual(self.functions.shares(SHEETS["A"], 72, *empty * 8), 11)
         self.assertEqual(self.functions.cell(*empty, 1, 1, 0, 0, *empty), 11)
         self.assertEqual(self.functions.best_sender(*empty, *empty, 1, 1, 0, *empty), 11)
         cells = (ctypes.c_uint32 * 2)(0, 3)

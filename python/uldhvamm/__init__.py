@@ -1,9 +1,9 @@
 """Uldhvamm, a planner of radio relays, for Python.
 
 From a sheet (sites, priced one-way legs, listening stations, the sites where each station can be heard, and the sites that may send) the
-planner finds the cheapest directed tree of legs that leads from a site that may send to every station. The planning, the plan reader and
-the enquirer are those of the library libuldhvamm.so; this package encodes sheets and plan files, calls the library and decodes its
-answers. It needs nothing but the standard library.
+planner finds the cheapest directed tree of legs that leads from a site that may send to every station. The planning, the plan reader, the
+shares and the enquirer are those of the library libuldhvamm.so; this package encodes sheets and plan files, calls the library and decodes
+its answers. It needs nothing but the standard library.
 
     from uldhvamm import BothWays, CostTable, Landing, Leg, Plan, Sender, build_sheet, load
 
@@ -13,6 +13,7 @@ answers. It needs nothing but the standard library.
     answer = library.plan(sheet)
     if isinstance(answer, Plan):
         print(answer.root, answer.total, answer.legs)
+        print(library.shares(sheet, answer.file))  # what each station pays
     else:
         print(answer)
 
@@ -24,7 +25,7 @@ The enquirer answers questions about the cost table of a sheet. A subset of the 
         print(library.best_sender(table, subset=3))
 """
 
-from .answers import Accepted, BestSender, Cell, Family, Plan, PlannedLeg, Refusal
+from .answers import Accepted, BestSender, Cell, Family, Plan, PlannedLeg, Refusal, Shares
 from .cost_table import CostTable
 from .formats import BothWays, Landing, Leg, Row, Sender, build_plan, build_sheet
 from .library import Library, load
@@ -44,6 +45,7 @@ __all__ = [
     "Refusal",
     "Row",
     "Sender",
+    "Shares",
     "build_plan",
     "build_sheet",
     "load",

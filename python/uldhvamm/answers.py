@@ -1,5 +1,5 @@
-"""What the library answers: a plan, an accepted plan file, a cell, a best sender, or a refusal with its number, word, place and family
-after documents 01 and 02.
+"""What the library answers: a plan, an accepted plan file, its shares, a cell, a best sender, or a refusal with its number, word, place and
+family after documents 01 and 02.
 """
 
 from __future__ import annotations
@@ -36,6 +36,19 @@ class Accepted:
     root: int
     total: int
     legs: int
+
+
+@dataclass(frozen=True)
+class Shares:
+    """The shares of an accepted plan file: its root (the sending site), its total in cents, its number of legs, what each station pays in
+    cents, station 0 first, and the sum of the legs that serve no station. The shares and this sum make the total.
+    """
+
+    root: int
+    total: int
+    legs: int
+    shares: tuple[int, ...]
+    unassigned: int
 
 
 @dataclass(frozen=True)

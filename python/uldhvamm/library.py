@@ -8,7 +8,7 @@ import struct
 from pathlib import Path
 from typing import Any, Union
 
-from .answers import Accepted, BestSender, Cell, Plan, PlannedLeg, Refusal
+from .answers import Accepted, BestSender, Cell, Plan, PlannedLeg, Refusal, Shares
 from .cost_table import NO_COST, CostTable
 from .formats import fitting
 from .native import Functions, functions_of
@@ -31,7 +31,9 @@ _SiteSets = ctypes.c_uint16 * MAX_SITES
 _SitePlaces = ctypes.c_uint16 * (MAX_SITES + 1)
 _SiteMarks = ctypes.c_uint8 * MAX_SITES
 _PlanBytes = ctypes.c_uint8 * (10 + 4 * (MAX_SITES - 1))
+_StationShares = ctypes.c_uint32 * MAX_STATIONS
 _Answer = ctypes.c_uint64 * 3
+_ShareAnswer = ctypes.c_uint64 * 4
 _Value = ctypes.c_uint64 * 1
 
 
@@ -53,6 +55,7 @@ class _Tables:
         self.cells = (ctypes.c_uint32 * cells)()
         self.marks = _SiteMarks()
         self.plan = _PlanBytes()
+        self.shares = _StationShares()
         self.answer = _Answer()
 
     def leg(self, number: int) -> PlannedLeg:
@@ -68,7 +71,7 @@ class _Tables:
 
 
 class Library:
-    """The planning, the plan reader and the enquirer of a shared library.
+    """The planning, the plan reader, the shares and the enquirer of a shared library.
 
     A call writes to tables of its own and keeps nothing, so one Library, and one CostTable, may be used in any number of threads at
     once. The interpreter's lock is free while the library works.
@@ -84,20 +87,26 @@ class Library:
 
     def read_plan(self, sheet: bytes, file: bytes) -> Union[Accepted, Refusal]:
         """Whether a plan file is that of a directed tree of the sheet's legs, from a sender to every station, with its true total."""
-        given = _plain(sheet)
-        read = _plain(file)
         tables = _Tables(0)
-        number = self._functions.read_plan(
-            *_lent(given),
-            *_lent(read),
-            *_lent(tables.starts),
-            *_lent(tables.ends),
-            *_lent(tables.prices),
-            *_lent(tables.landings),
-            *_lent(tables.marks),
-            *_lent(tables.answer),
-        )
+        lent = _lent_to_reader(_plain(sheet), _plain(file), tables)
+        number = self._functions.read_plan(*lent, *_lent(tables.answer))
         return Accepted(*tables.answer[:]) if number == 0 else Refusal(number, tables.answer[0])
+
+    def shares(self, sheet: bytes, file: bytes) -> Union[Shares, Refusal]:
+        """What each station pays of a plan file, or why the file is refused, as `read_plan` refuses it.
+
+        A station sits at the lowest of its landings that the plan holds. The price of a leg is split over the stations that sit at its end
+        or further on in the tree; the lowest of them pay the odd cents, one each.
+        """
+        given = _plain(sheet)
+        tables, answer = _Tables(0), _ShareAnswer()
+        lent = _lent_to_reader(given, _plain(file), tables)
+        number = self._functions.shares(*lent, *_lent(tables.shares), *_lent(answer))
+        if number != 0:
+            return Refusal(number, answer[0])
+        root, total, legs, unassigned = answer[:]
+        _, stations = _head_of(given)
+        return Shares(root, total, legs, tuple(tables.shares[:stations]), unassigned)
 
     def cost_table(self, sheet: bytes) -> Union[CostTable, Refusal]:
         """The cost table of a sheet and its landing sets, as the planning leaves them, also where there is no plan; or why the sheet is
@@ -206,6 +215,12 @@ def _plain(data: bytes) -> bytes:
     if not isinstance(data, bytes):
         raise TypeError(f"bytes are needed, not {type(data).__name__}")
     return bytes(data)
+
+
+def _lent_to_reader(sheet: bytes, file: bytes, tables: _Tables) -> list[Any]:
+    """What the plan reader and the sharing are lent: the sheet, the file, and the tables for legs, landings and marks."""
+    lent = [sheet, file, tables.starts, tables.ends, tables.prices, tables.landings, tables.marks]
+    return [part for entries in lent for part in _lent(entries)]
 
 
 def _lent(entries: Any) -> tuple[Any, int]:

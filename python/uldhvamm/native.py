@@ -30,6 +30,9 @@ _PLAN: list[Any] = [*_BYTES, *_LEGS_AND_LANDINGS, *_INDEX, *_TABLE_32, *_TABLE_8
 # sheet, plan file, legs and landings, marks, answer
 _READ_PLAN: list[Any] = [*_BYTES, *_BYTES, *_LEGS_AND_LANDINGS, *_TABLE_8, *_TABLE_64]
 
+# sheet, plan file, legs and landings, marks, shares, answer
+_SHARES: list[Any] = [*_BYTES, *_BYTES, *_LEGS_AND_LANDINGS, *_TABLE_8, *_TABLE_32, *_TABLE_64]
+
 # cells, sites, stations, site, subset, answer
 _CELL: list[Any] = [*_TABLE_32, *_NUMBER, *_NUMBER, *_NUMBER, *_NUMBER, *_TABLE_64]
 
@@ -49,19 +52,29 @@ class Functions(NamedTuple):
 
     plan: Callable[..., int]
     read_plan: Callable[..., int]
+    shares: Callable[..., int]
     cell: Callable[..., int]
     best_sender: Callable[..., int]
 
 
 def functions_of(path: Path) -> Functions:
-    """The functions of the shared library at this path. A library with another interface is an `ImportError`."""
+    """The functions of the shared library at this path. A library with another interface or without one of them is an `ImportError`."""
     shared = ctypes.CDLL(str(path.absolute()))
     interface = _interface_of(shared)
     if interface != INTERFACE:
         raise ImportError(f"{path} has interface {interface}, and this package has interface {INTERFACE}")
+    try:
+        return _functions_in(shared)
+    except AttributeError as fault:
+        raise ImportError(f"{path} lacks a function: {fault}") from None
+
+
+def _functions_in(shared: ctypes.CDLL) -> Functions:
+    """The functions of a shared library. One that it lacks is an `AttributeError`."""
     return Functions(
         plan=_declared(shared.uldhvamm_plan, _PLAN),
         read_plan=_declared(shared.uldhvamm_read_plan, _READ_PLAN),
+        shares=_declared(shared.uldhvamm_shares, _SHARES),
         cell=_declared(shared.uldhvamm_cell, _CELL),
         best_sender=_declared(shared.uldhvamm_best_sender, _BEST_SENDER),
     )
