@@ -1,9 +1,9 @@
 /*
- * The header as C: plans sheet A of document 01, asks about its cost table and two smaller ones, reads the plan file back and shares it out,
- * changes its total and sets it back, shares with a table that is one entry short or two longer and with a leg that serves no station, plans
- * an empty sheet, plans with tables of the index that are one entry short or two longer and with a short buffer, and plans, reads and shares
- * with a licence for site 1 alone. After each planning it prints the two tables of the index whole, after each sharing the share table.
- * tests/outside compiles it, links it with libuldhvamm.a, and compares what it prints.
+ * The header as C: plans sheet A of document 01, asks about its cost table and two smaller ones, reads the plan file back and shares it
+ * out, changes its total and sets it back, shares with a table that is one entry short or two longer and with a leg that serves no station,
+ * plans an empty sheet, plans with tables of the index that are one entry short or two longer and with a short buffer, and plans, reads and
+ * shares with a licence for site 1 alone. After each planning it prints the two tables of the index whole, after each sharing the share
+ * table. tests/outside compiles it, links it with libuldhvamm.a, and compares what it prints.
  */
 #include "uldhvamm.h"
 

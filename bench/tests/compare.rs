@@ -300,7 +300,8 @@ fn plan_files_are_shared_alike() {
     counts.require("plan files shared", &aims, 500);
 }
 
-/// Of a sheet's own plan nothing is left. Of its plan with further legs, and of other trees from its root, some is left now and then, or all.
+/// Of a sheet's own plan nothing is left. Of its plan with further legs, and of other trees from its root, some is left now and then, or
+/// all.
 #[test]
 fn plans_and_dearer_trees_are_shared_alike() {
     let mut counts = Counts::new();

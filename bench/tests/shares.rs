@@ -49,8 +49,8 @@ fn decoded(run: &Run) -> Sharing {
     Sharing::decode(run.number, &values)
 }
 
-/// Fails where the stations do not pay these shares of a file, or another sum is unassigned. The share table has two entries more than there
-/// are stations, and these are left as they were.
+/// Fails where the stations do not pay these shares of a file, or another sum is unassigned. The share table has two entries more than
+/// there are stations, and these are left as they were.
 fn check(sheet: &Sheet, file: &PlanFile, due: &[u32], unassigned: u64) {
     let run = run(sheet, &file.bytes(), due.len() + 2, 4);
     let shared = Sharing::Shared {

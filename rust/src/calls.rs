@@ -250,8 +250,8 @@ pub fn cell(table: CostTable, site: u32, subset: u32, answer: &mut [u64]) -> u32
     }
 }
 
-/// Asks for the best sender of a subset, of several equally cheap ones the lowest. Returns 0 for a site and for `NO_SENDER`, else the number
-/// of the refusal.
+/// Asks for the best sender of a subset, of several equally cheap ones the lowest. Returns 0 for a site and for `NO_SENDER`, else the
+/// number of the refusal.
 pub fn best_sender(table: CostTable, subset: u32, answer: &mut [u64]) -> u32 {
     check_interface();
     // SAFETY: each pointer and length are those of one slice; the mutable slice overlaps nothing.

@@ -153,8 +153,8 @@ impl Answer {
 /// An answer to the sharing of a plan file, decoded.
 #[derive(Clone, Copy, Debug, PartialEq, Eq)]
 pub enum Sharing {
-    /// The file is accepted, and the shares stand in the share table. With `unassigned`, the sum of the legs that serve no station, they make
-    /// the total.
+    /// The file is accepted, and the shares stand in the share table. With `unassigned`, the sum of the legs that serve no station, they
+    /// make the total.
     Shared {
         root: u64,
         total: u64,

@@ -66,7 +66,8 @@ pub fn read_plan(bytes: &[u8], file: &[u8], tables: &mut Tables, answer: &mut [u
     send_back(outcome.map(|plan| plan.values()), answer)
 }
 
-/// Reads a plan file against a sheet and shares its price out over the stations. Returns 0 for an acceptance, else the number of the refusal.
+/// Reads a plan file against a sheet and shares its price out over the stations. Returns 0 for an acceptance, else the number of the
+/// refusal.
 pub fn shares(bytes: &[u8], file: &[u8], tables: &mut Tables, answer: &mut [u64]) -> u32 {
     send_back(shared(bytes, file, tables), answer)
 }
@@ -128,8 +129,8 @@ fn shared(bytes: &[u8], file: &[u8], tables: &mut Tables) -> Result<[u64; 4], Re
     Ok([root, total, legs, unassigned])
 }
 
-/// A file against a good sheet for which there is room: the leg tables and landing sets, the file, the marks, 17, 20, 18, 19. Gives the plan
-/// and, for each site, whether it is reached.
+/// A file against a good sheet for which there is room: the leg tables and landing sets, the file, the marks, 17, 20, 18, 19. Gives the
+/// plan and, for each site, whether it is reached.
 fn accepted(
     sheet: &Sheet,
     file: &[u8],

@@ -1,14 +1,14 @@
 //! The shares of an accepted plan (document 02, W-204): where each station sits, which stations each leg serves, and what each pays.
 //!
-//! The sets of served stations are gathered from the leaves: each leg of the tree, the last reached first, hands the set of its end on to its
-//! start.
+//! The sets of served stations are gathered from the leaves: each leg of the tree, the last reached first, hands the set of its end on to
+//! its start.
 
 use super::groups::Groups;
 use super::plan_file::PlanFile;
 use super::sheet::{Leg, Sheet};
 
-/// Writes what each station pays to `shares`, which has an entry for each, and gives the sum of the legs that serve no station. The plan is an
-/// accepted one: its legs are a tree, and each station has a landing among the sites that it holds.
+/// Writes what each station pays to `shares`, which has an entry for each, and gives the sum of the legs that serve no station. The plan is
+/// an accepted one: its legs are a tree, and each station has a landing among the sites that it holds.
 pub fn deal(sheet: &Sheet, plan: &PlanFile, held: &[bool], shares: &mut [u32]) -> u64 {
     let legs = outward(sheet, plan);
     let mut served = seats(sheet, held);

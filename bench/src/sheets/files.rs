@@ -67,8 +67,8 @@ pub fn varied_file(random: &mut Random, sheet: &Sheet, plan: Option<&PlanFile>) 
     bytes
 }
 
-/// A tree that the plan of a sheet is changed to: the plan with further legs, or another tree from its root, which reaches all that the root
-/// reaches. So it is accepted, and mostly dearer than the plan.
+/// A tree that the plan of a sheet is changed to: the plan with further legs, or another tree from its root, which reaches all that the
+/// root reaches. So it is accepted, and mostly dearer than the plan.
 pub fn grown_plan(random: &mut Random, sheet: &Sheet, plan: &PlanFile) -> PlanFile {
     let mut tree = plan.clone();
     if random.once_in(2) {

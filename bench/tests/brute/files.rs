@@ -1,6 +1,6 @@
 //! Every list of at most four legs of a sheet, with repeats and in every order, as a plan file: each entry is a leg of the sheet or the
-//! first number that is none, and each list is tried with each site as the root and with the first number that is no site. Each file is read
-//! and shared.
+//! first number that is none, and each list is tried with each site as the root and with the first number that is no site. Each file is
+//! read and shared.
 
 use crate::lent::{Left, BEFORE};
 use crate::trees::Small;

@@ -1,5 +1,5 @@
-//! What is lent to a call on a small sheet: each table has two entries more than any sheet of the family needs, the answer one more than any
-//! call writes.
+//! What is lent to a call on a small sheet: each table has two entries more than any sheet of the family needs, the answer one more than
+//! any call writes.
 
 use uldhvamm::{plan_lent, read_plan_lent, shares_lent, CostTable, Lent};
 

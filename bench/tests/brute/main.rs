@@ -1,7 +1,7 @@
 //! The library against a trial of everything: on each of 6,000 small sheets, without `SR` and with every set of senders, the engine's
 //! answer, tables and plan file against all trees and the rule, the best sender of each set of stations against the trees, and, with one
-//! drawn set of senders, every list of at most four legs as a plan file, with the shares of each that is accepted against their definition. All
-//! that is lent is compared after each call.
+//! drawn set of senders, every list of at most four legs as a plan file, with the shares of each that is accepted against their definition.
+//! All that is lent is compared after each call.
 
 mod family;
 mod files;
@@ -96,7 +96,7 @@ fn due_plan(small: &Small, cells: &[u32], best: &[&Tree]) -> Left {
     due.planned(tree.root, tree.total, list.len())
 }
 
-/// Plans a sheet, compares all that is left with what is due, and asks for the best senders. The plans from all sites go to the reader.
+/// Plans a sheet, compares all that is left with what is due, and asks for the best senders. The plans from all sites are read and shared.
 fn try_plan(reading: &Reading, trees: &[Tree], counts: &mut Counts) {
     let small = reading.small;
     let best = small.best(trees, small.full());

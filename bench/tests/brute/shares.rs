@@ -1,4 +1,5 @@
-//! What each station pays for a small tree, straight from document 02 (W-204): where it sits, which legs lead to its seat, and its part of each.
+//! What each station pays for a small tree, straight from document 02 (W-204): where it sits, which legs lead to its seat, and its part of
+//! each.
 
 use crate::trees::Small;
 

@@ -1,5 +1,5 @@
-//! Stored cases of sheets, plan files, shares, the engine and the enquirer. Each is run by the library and by the reference, and what is printed
-//! is to be the stored output. The plan files are also read by the sharing, which is to print the same.
+//! Stored cases of sheets, plan files, shares, the engine and the enquirer. Each is run by the library and by the reference, and what is
+//! printed is to be the stored output. The plan files are also read by the sharing, which is to print the same.
 //!
 //! A file `data/NAME.txt` has the cases, one directive a line, and `data/NAME.out` the stored output. Empty lines and lines that begin
 //! with `#` are passed over. No two cases of a file print the same name.
