@@ -2,11 +2,11 @@
 
 use uldhvamm::{Lengths, Tables};
 use uldhvamm_bench::compare::{both, Call, Run};
-use uldhvamm_bench::sheets::Leg;
 use uldhvamm_bench::sheets::{
     bad_reading, chain, far_chain, filled_sheet, gated_row, grid, heard_often,
 };
-use uldhvamm_bench::sheets::{licensed, random_sheet, Chain, Order, PlanFile, Random, Sheet};
+use uldhvamm_bench::sheets::{licensed, random_sheet};
+use uldhvamm_bench::sheets::{Chain, Leg, Order, PlanFile, Random, Sheet};
 
 /// Runs both with tables of garbage, a few entries longer than needed, and fails where they differ.
 fn check(call: &Call, sheet: &Sheet) -> Run {
@@ -171,32 +171,31 @@ fn a_chain_to_all_stations_is_shared_alike() {
     assert!(due[0] > due[9]);
 }
 
-/// A tree of every site of a grid, which is not the plan: the legs of the first row, and those down each column. What leads past the last
-/// seat of a column is unassigned.
-#[test]
-fn a_tree_of_a_whole_grid_is_shared_alike() {
-    let sheet = grid(4, 32, 10, Order::Mixed);
-    let (file, run) = shared_comb(&sheet, 32);
-    assert_eq!((run.number, file.legs.len()), (0, 1023));
-    assert!(run.answer[3] > 0 && paid(&run, &sheet) > 0);
-    assert_eq!(paid(&run, &sheet) + run.answer[3], u64::from(file.total));
-}
-
-/// The file of the tree of all sites of a square whose legs go along the first row and down each column, and what its sharing leaves.
-fn shared_comb(sheet: &Sheet, side: u16) -> (PlanFile, Run) {
+/// The file of the tree of all sites of a square whose legs go along the first row and down each column.
+fn row_and_columns(sheet: &Sheet, side: u16) -> PlanFile {
     let legs = sheet.legs();
     let along = |leg: &Leg| leg.to < side && leg.to == leg.from + 1;
     let down = |leg: &Leg| leg.to == leg.from + side;
     let listed = (0..legs.len()).filter(|&leg| along(&legs[leg]) || down(&legs[leg]));
     let listed: Vec<u16> = listed.map(|leg| leg as u16).collect();
-    let total = listed.iter().map(|&leg| legs[usize::from(leg)].price).sum();
-    let file = PlanFile {
+    let prices = listed.iter().map(|&leg| legs[usize::from(leg)].price);
+    PlanFile {
         root: 0,
-        total,
+        total: prices.sum(),
         legs: listed,
-    };
-    let run = check(&Call::Share(file.bytes()), sheet);
-    (file, run)
+    }
+}
+
+/// A tree that holds every site of a grid and is not its plan. What leads past the last seat of a column is unassigned.
+#[test]
+fn a_tree_of_a_whole_grid_is_shared_alike() {
+    let sheet = grid(4, 32, 10, Order::Mixed);
+    let file = row_and_columns(&sheet, 32);
+    let run = check(&Call::Share(file.bytes()), &sheet);
+    assert_eq!((run.number, file.legs.len()), (0, 1023));
+    let (paid, unassigned) = (paid(&run, &sheet), run.answer[3]);
+    assert!(paid > 0 && unassigned > 0);
+    assert_eq!(paid + unassigned, u64::from(file.total));
 }
 
 #[test]

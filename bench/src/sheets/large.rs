@@ -178,6 +178,7 @@ fn chain_legs(random: &mut Random, shape: Chain) -> Vec<Record> {
 /// A chain from site 0, which alone may send, to the last site, at which every station is heard. So each of its legs serves every station.
 /// Prices are drawn from 1 to 1,000, and the legs are listed in random order.
 pub fn far_chain(sites: u16, stations: u8) -> Sheet {
+    let mut random = Random::new(18);
     let shape = Chain {
         sites,
         stations,
@@ -185,13 +186,12 @@ pub fn far_chain(sites: u16, stations: u8) -> Sheet {
         order: Order::Mixed,
         whole: false,
     };
-    let mut sheet = chain(18, shape).sender(0);
-    for record in &mut sheet.records {
-        if let Record::Landing { site, .. } = record {
-            *site = sites - 1;
-        }
-    }
-    sheet
+    let mut sheet = Sheet::new(sites, stations);
+    sheet.records = chain_legs(&mut random, shape);
+    arrange(&mut random, shape.order, &mut sheet.records);
+    (0..stations).fold(sheet.sender(0), |sheet, station| {
+        sheet.landing(station, sites - 1)
+    })
 }
 
 /// The site at which a station of a chain is heard.
