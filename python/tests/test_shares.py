@@ -65,9 +65,11 @@ class Worked(unittest.TestCase):
         nobody = build_sheet(1024, 1, [*row, Landing(0, 0)])
         self.shared(nobody, 0, 1023000000, list(range(1023)), [0], 1023000000)
 
-    def test_the_example_of_the_readme(self) -> None:
+    def test_the_examples_of_the_readme(self) -> None:
         rows: list[Row] = [Leg(0, 1, 900), BothWays(1, 2, 400), Landing(0, 0), Landing(1, 2)]
         self.shared(build_sheet(3, 2, rows), 0, 1300, [0, 1], [0, 1300], 0)
+        rows = [Leg(0, 1, 1000), Leg(1, 2, 500), Leg(1, 3, 201), Landing(0, 2), Landing(1, 2), Landing(2, 3), Landing(3, 0)]
+        self.shared(build_sheet(4, 4, rows), 0, 1701, [0, 1, 2], [584, 583, 534, 0], 0)
 
 
 class Refused(unittest.TestCase):
