@@ -106,7 +106,7 @@ pub whole-calls : (κs : Lfts 8) (a : Dens κs share-kinds.ps) (r : Sharing) (e 
     → share-plan.Learnt κs a r e → (root cost count rest : ℕ) → statedSharing r ≡ shared root cost count rest
     → GoodWith (now (a .0)) (λ n k records. MakesTotal (graphOf n k records) (now (a .1 .0)) (now (e .1 .1 .1 .1 .1 .1 .1 .0)) cost rest)
 whole-calls κs a r e learnt root cost count rest is =
-    let g = sharing-whole (now (a .0)) (now (a .1 .0)) _ root cost count rest (sym (ap (λ (x : Run ShareTables). x .answer) learnt) ∙ is) in
+    let g = sharing-whole (now (a .0)) (now (a .1 .0)) (lentTo κs a) root cost count rest (sym (ap (λ (x : Run ShareTables). x .answer) learnt) ∙ is) in
     record {
       n = g .n;
       k = g .k;
@@ -133,7 +133,7 @@ pub share-calls : (κs : Lfts 10) (a : Dens κs plan-kinds.ps) (r : Answer) (e :
     → plan-sheet.Learnt κs a r e → Bytes (now (a .0)) → (root cost count : ℕ) → stated r ≡ plan root cost count
     → GoodWith (now (a .0)) (SharedCalls (now (a .0)) root cost count (now (a .1 .1 .1 .1 .1 .1 .1 .1 .1 .0)) (now (e .1 .1 .1 .1 .1 .1 .1 .1 .1 .0)))
 share-calls κs a r e learnt bytes root cost count is =
-    let g = engine-assigned (now (a .0)) bytes _ _ (stated r) (learnt .1 .1 .0) root cost count is in
+    let g = engine-assigned (now (a .0)) bytes root cost count _ _ (learnt .1 .1 .0 root cost count is) in
     record {
       n = g .n;
       k = g .k;

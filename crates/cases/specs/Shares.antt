@@ -6,10 +6,14 @@ use Prim.Native.Nat.{ℕ}
 use mathlib.Core.Path.{_≡_, refl}
 use mathlib.Core.List.{List, [], _∷_}
 use Rattle.answer.specs.Stated.{shared, refused, ofSheet, ofTables, ofPlanFile}
+use Rattle.sheet.specs.Verdict.{verdict, readFor}
 use Rattle.sheet.specs.Worked.{sheetA, sheetF}
 use Rattle.lent_tables.specs.SheetTables.{sheetTables}
+use Rattle.record_tables.specs.Loaded.{loaded}
 use Rattle.planfile.specs.Format.{fileBytes}
-use Rattle.mission.specs.Runs.{ReaderTables, readerTables, run}
+use Rattle.mission.specs.Runs.{readerTables, run}
+use Rattle.file_tests.specs.FileFaults.{fileFault}
+use Rattle.plan_tests.specs.PlanFaults.{treeFault}
 use Rattle.shares.specs.SharesOf.{ShareTables, shareTables, sharingOf}
 use Rattle.cases.specs.Files.{planA, planL, dearer, missed, underTen, lent, filledWith}
 
@@ -75,4 +79,5 @@ pub shares-settled :
     × (sharingOf sheetRow (fileBytes 0 15 (2 ∷ 0 ∷ 1 ∷ [])) (lentWith (8 ∷ 8 ∷ [])) ≡ run (shared 0 15 3 3) (afterRow (1 ∷ 1 ∷ 1 ∷ 1 ∷ 9 ∷ []) (4 ∷ 8 ∷ [])))
     × (sharingOf sheetRow (fileBytes 0 12 (0 ∷ 1 ∷ [])) (lentWith (8 ∷ 8 ∷ [])) ≡ run (shared 0 12 2 0) (afterRow (1 ∷ 1 ∷ 1 ∷ 0 ∷ 9 ∷ []) (4 ∷ 8 ∷ [])))
     × (sharingOf sheetRow (fileBytes 1 5 (1 ∷ [])) (lentWith (8 ∷ 8 ∷ [])) ≡ run (shared 1 5 1 0) (afterRow (0 ∷ 1 ∷ 1 ∷ 0 ∷ 9 ∷ []) (0 ∷ 5 ∷ [])))
+unfolding verdict readFor loaded fileFault treeFault
 shares-settled = (refl, refl, refl, refl, refl, refl, refl, refl, refl, refl, refl, refl, refl)

@@ -6,7 +6,7 @@ use mathlib.Core.Path.{_≡_, ap, _∙_, subst}
 use mathlib.Core.List.{List}
 use lib.ListN.{length}
 use Rattle.lists.specs.Over.{over}
-use Rattle.answer.specs.Stated.{Stated, plan, shared}
+use Rattle.answer.specs.Stated.{plan, shared}
 use Rattle.graph.specs.Graph.{Graph}
 use Rattle.graph.specs.Subtrees.{total}
 use Rattle.graph.specs.Theorems.{covers-all}
@@ -20,7 +20,7 @@ use Rattle.network.specs.laws.OfSheets.{sheet-sound}
 use Rattle.planfile.specs.Format.{fileSize, arcsIn}
 use Rattle.planfile.specs.laws.Encoded.{encoding-fields}
 use Rattle.mission.specs.Runs.{GoodWith, EngineTables}
-use Rattle.mission.specs.PointTwo.{PlanWritten, EngineSound}
+use Rattle.mission.specs.PointTwo.{PlanWritten, PlanAccepted}
 use Rattle.plan_shares.specs.Shares.{unassigned}
 use Rattle.plan_shares.specs.laws.Assigned.{none-unassigned}
 use Rattle.file_shares.specs.Sharing.{withUnassigned}
@@ -49,11 +49,10 @@ written-assigned sheet bytes n k records e {root} {cost} w =
     let (_, covers) = covers-all G root M in
     subst (λ (x : ℕ). x ≤ total G root M) (w .is-plan .true-total) (w .by-rule .root-is .holds .costs .least M tree (covers all)))
 
--- of every engine that keeps its promise
-pub engine-assigned : (sheet : List ℕ) → Bytes sheet → (before after : EngineTables) (answer : Stated) → EngineSound readingOf sheet before answer after
-    → (root cost count : ℕ) → answer ≡ plan root cost count → GoodWith sheet (AllAssigned sheet root cost count (before .buffer) (after .buffer))
-engine-assigned sheet bytes before after answer sound root cost count is =
-    let p = sound root cost count is in
+-- of every engine that keeps its promise: where its plan is accepted, as `EngineSound` says of its plan buffer before and after
+pub engine-assigned : (sheet : List ℕ) → Bytes sheet → (root cost count : ℕ) (before after : List ℕ)
+    → GoodWith sheet (PlanAccepted readingOf sheet root cost count before after) → GoodWith sheet (AllAssigned sheet root cost count before after)
+engine-assigned sheet bytes root cost count before after p =
     let w = p .holds .plan-written in
     let G : Graph = graphOf (p .n) (p .k) (p .records) in
     let fields = encoding-fields (w .file) root cost (w .listed) (w .encoded) in
@@ -76,4 +75,5 @@ engine-assigned sheet bytes before after answer sound root cost count is =
 -- so of every run of the engine as it is defined
 pub planned-assigned : (sheet : List ℕ) → Bytes sheet → (t : EngineTables) (root cost count : ℕ) → planningOf sheet t .answer ≡ plan root cost count
     → GoodWith sheet (AllAssigned sheet root cost count (t .buffer) (planningOf sheet t .after .buffer))
-planned-assigned sheet bytes t = engine-assigned sheet bytes t (planningOf sheet t .after) (planningOf sheet t .answer) (point-two sheet bytes t)
+planned-assigned sheet bytes t root cost count is =
+    engine-assigned sheet bytes root cost count (t .buffer) (planningOf sheet t .after .buffer) (point-two sheet bytes t root cost count is)

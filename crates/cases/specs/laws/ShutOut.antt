@@ -91,7 +91,7 @@ reaches-B = found-reaches (graphOf 1 1 recordsB) (sheet-plannable sheetB bytes-B
 long-B : EngineLong 1 1 0 lent
 long-B = record {
   tables = record { starts = omega arith; ends = omega arith; weights = omega arith; landings = omega arith };
-  further = record { byEnd = omega arith; places = omega arith; cells = omega arith; marks = omega arith };
+  further = record { byEnd = omega arith; places = omega arith; cells = omega arith; marks = omega arith; shares = tt };
 }
 
 buffer-B : BufferLong (graphOf 1 1 recordsB) (lent .buffer)
@@ -111,7 +111,7 @@ abbrev readerLent : ReaderTables
 readerLent = readerTables (lent .tables) (lent .marks)
 
 reader-long-B : ReaderLong 1 1 0 readerLent
-reader-long-B = record { tables = long-B .tables; further = record { byEnd = tt; places = tt; cells = tt; marks = long-B .further .marks } }
+reader-long-B = record { tables = long-B .tables; further = record { byEnd = tt; places = tt; cells = tt; marks = long-B .further .marks; shares = tt } }
 
 encodes-B : EncodesPlan (graphOf 1 1 recordsB) fileB 0 0 0
 encodes-B = record {

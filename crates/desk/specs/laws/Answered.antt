@@ -154,6 +154,7 @@ module _ (n k m : ℕ) (t : EngineTables) (d : DeskTables t) where
           places = omega (arith, d .places);
           cells = omega (arith, d .cells);
           marks = omega (arith, d .marks);
+          shares = tt;
         };
       }
 

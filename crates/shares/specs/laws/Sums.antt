@@ -51,7 +51,7 @@ abbrev pub ShareLong : (n k arcCount : ℕ) → ShareTables → Type 0
 ShareLong n k arcCount t = AllLong n k arcCount (t .reader .tables) (shareFurther t)
 
 -- a run is that of the plan reader, with shares: its answer, every table of the plan reader, and the share table
-pub record AsRead (G : Graph) (file before : List ℕ) (read : Run ReaderTables) (share : Run ShareTables) : Type 0 where
+pub record ReadWithShares (G : Graph) (file before : List ℕ) (read : Run ReaderTables) (share : Run ShareTables) : Type 0 where
   pub answer : share .answer ≡ withUnassigned G file (read .answer)
   pub tables : share .after .reader ≡ read .after
   pub shares : share .after .shares ≡ sharesBy G file before (read .answer)
@@ -87,8 +87,8 @@ module _ (sheet file : List ℕ) (t : ShareTables) where
     file-shared long = ap (given sheet file t) (opening-good sheet (t .reader .tables) (shareFurther t) n k records e long)
 
     -- else "Refusals and tables are the plan reader's"
-    pub as-read : k ≤ length (t .shares) → AsRead (graphOf n k records) file (t .shares) (readingOf sheet file (t .reader)) (sharingOf sheet file t)
-    as-read enough = by-test (areLong n k (length (arcs records)) (t .reader .tables) (readerFurther (t .reader))) (λ _. AsThere)
+    pub as-read : k ≤ length (t .shares) → ReadWithShares (graphOf n k records) file (t .shares) (readingOf sheet file (t .reader)) (sharingOf sheet file t)
+    as-read enough = by-test (areLong n k (length (arcs records)) (t .reader .tables) (readerFurther (t .reader))) (λ _. ReadHere)
         (λ h.
         let long = test-long n k (length (arcs records)) (t .reader .tables) (readerFurther (t .reader)) h in
         both (file-read sheet file (t .reader) n k records e long) (file-shared (share-long long enough)) (record { answer = refl; tables = refl; shares = refl }))
@@ -98,12 +98,12 @@ module _ (sheet file : List ℕ) (t : ShareTables) where
         both (tables-short sheet file (t .reader) n k records e short) (short-opened (λ long. short (long-read long)))
         (record { answer = refl; tables = refl; shares = refl }))
       where
-        AsThere : Type 0
-        AsThere = AsRead (graphOf n k records) file (t .shares) (readingOf sheet file (t .reader)) (sharingOf sheet file t)
+        ReadHere : Type 0
+        ReadHere = ReadWithShares (graphOf n k records) file (t .shares) (readingOf sheet file (t .reader)) (sharingOf sheet file t)
 
         both : {read : Run ReaderTables} {share : Run ShareTables} → readingOf sheet file (t .reader) ≡ read → sharingOf sheet file t ≡ share
-            → AsRead (graphOf n k records) file (t .shares) read share → AsThere
-        both read share there = subst₂ (AsRead (graphOf n k records) file (t .shares)) (sym read) (sym share) there
+            → ReadWithShares (graphOf n k records) file (t .shares) read share → ReadHere
+        both read share there = subst₂ (ReadWithShares (graphOf n k records) file (t .shares)) (sym read) (sym share) there
 
 -- ---- the shares make the total
 
