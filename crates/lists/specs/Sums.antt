@@ -4,6 +4,7 @@
 use Prim.Native.Nat.{ℕ, zero, suc, _+_, _*_, _≤_, _<_}
 use mathlib.Core.Path.{_≡_, refl, sym, ap, _∙_}
 use mathlib.Core.Logic.{_≢_, ⊎-elim}
+use mathlib.Core.Bool.{Bool}
 use mathlib.Core.List.{List, [], _∷_, _++_, map}
 use native.Mathlib.Numerals.{add-one}
 use native.Mathlib.Omega.{arith}
@@ -11,7 +12,7 @@ use native.Mathlib.Decide.{ℕ-discrete}
 use lib.Dec.{T, eqb}
 use lib.ListN.{length}
 use Rattle.lists.specs.Tests.{by-eq}
-use Rattle.lists.specs.Count.{bit, count}
+use Rattle.lists.specs.Count.{bit, bit-le, bit-passed, count}
 use Rattle.lists.specs.Listed.{listed, listed-head, listed-tail, listed-cases, every-listed, count-listed, listed-count, Distinct}
 use Rattle.lists.specs.Numbers.{numbers, values-more}
 
@@ -120,8 +121,43 @@ pub sumTo-add : (n : ℕ) (f g : ℕ → ℕ) → sumTo n (λ v. f v + g v) ≡ 
 sumTo-add zero f g = omega arith
 sumTo-add (suc n) f g = omega (arith, sumTo-add n f g)
 
+-- a sum of sums over a list is one sum over the list
+pub sumTo-sumBy : (n : ℕ) (f : ℕ → ℕ → ℕ) (l : List ℕ) → sumTo n (λ i. sumBy (λ x. f x i) l) ≡ sumBy (λ x. sumTo n (f x)) l
+sumTo-sumBy n f [] = sumTo-zero n
+sumTo-sumBy n f (x ∷ l) = sumTo-add n (f x) (λ i. sumBy (λ y. f y i) l) ∙ ap (λ (s : ℕ). sumTo n (f x) + s) (sumTo-sumBy n f l)
+
+-- the value at 0 apart
+pub sumTo-first : (n : ℕ) (f : ℕ → ℕ) → sumTo (suc n) f ≡ f 0 + sumTo n (λ v. f (suc v))
+sumTo-first zero f = omega arith
+sumTo-first (suc n) f = omega (arith, sumTo-first n f)
+
+-- each value is at most the sum, and the sum over fewer numbers is no greater
+pub sumTo-entry : (n x : ℕ) (f : ℕ → ℕ) → x < n → f x ≤ sumTo n f
+sumTo-entry zero x f l = absurd (omega arith)
+sumTo-entry (suc n) x f l = go (ℕ-discrete x n) (λ b. sumTo-entry n x f b)
+  where
+    go : Dec (x ≡ n) → (x < n → f x ≤ sumTo n f) → f x ≤ sumTo (suc n) f
+    go (yes e) below = omega (arith, ap f e)
+    go (no p) below = omega (arith, below (omega arith))
+
+pub sumTo-fewer : (m n : ℕ) (f : ℕ → ℕ) → m ≤ n → sumTo m f ≤ sumTo n f
+sumTo-fewer m zero f l = let e : m ≡ 0 = omega arith in omega (arith, ap (λ (j : ℕ). sumTo j f) e)
+sumTo-fewer m (suc n) f l = go (ℕ-discrete m (suc n)) (λ b. sumTo-fewer m n f b)
+  where
+    go : Dec (m ≡ suc n) → (m ≤ n → sumTo m f ≤ sumTo n f) → sumTo m f ≤ sumTo (suc n) f
+    go (yes e) below = omega (arith, ap (λ (j : ℕ). sumTo j f) e)
+    go (no p) below = omega (arith, below (omega arith))
+
+-- how many of the numbers below n pass a test: at most n, and at least 1 where one passes
+pub passing-most : (p : ℕ → Bool) (n : ℕ) → sumTo n (λ v. bit (p v)) ≤ n
+passing-most p zero = omega arith
+passing-most p (suc n) = omega (arith, passing-most p n, bit-le (p n))
+
+pub passing-one : (p : ℕ → Bool) (n v : ℕ) → v < n → T (p v) → 1 ≤ sumTo n (λ u. bit (p u))
+passing-one p n v l t = omega (arith, sumTo-entry n v (λ u. bit (p u)) l, bit-passed (p v) t)
+
 -- where no value of f is above that of g, the sum is not; where one is below it too, the sum is below
-sumTo-le : (n : ℕ) (f g : ℕ → ℕ) → ((v : ℕ) → v < n → f v ≤ g v) → sumTo n f ≤ sumTo n g
+pub sumTo-le : (n : ℕ) (f g : ℕ → ℕ) → ((v : ℕ) → v < n → f v ≤ g v) → sumTo n f ≤ sumTo n g
 sumTo-le zero f g h = omega arith
 sumTo-le (suc n) f g h = omega (arith, h n (omega arith), sumTo-le n f g (λ v l. h v (omega arith)))
 

@@ -1,7 +1,7 @@
 -- The ways up in a plan, by the parents of its nodes: a node is above another where a path of listed arcs leads down from it. And the seats by the
 -- marks and the landing entries are those of the plan.
 -- Assumes nothing.
-use Prim.Native.Nat.{ℕ, zero, suc, _+_, _-_, _≤_, _<_}
+use Prim.Native.Nat.{ℕ, _-_, _≤_, _<_}
 use mathlib.Core.Path.{_≡_, refl, sym, ap, ap₂, _∙_, subst}
 use mathlib.Core.Bool.{Bool, true, false, _&&_, _||_}
 use mathlib.Core.Option.{Option, none, some}
@@ -11,10 +11,10 @@ use lib.Dec.{T, eqb}
 use lib.ListN.{length, getD}
 use Rattle.limits.specs.Limits.{maxNodes}
 use Rattle.lists.specs.Tests.{same-tests}
-use Rattle.lists.specs.Count.{bit, bit-le, bit-passed}
+use Rattle.lists.specs.Count.{bit}
 use Rattle.lists.specs.Listed.{listed}
 use Rattle.lists.specs.Find.{first, first-same}
-use Rattle.lists.specs.Sums.{sumTo, sumTo-zero, sumTo-lt}
+use Rattle.lists.specs.Sums.{sumTo, passing-most, passing-one}
 use Rattle.subset.specs.Sets.{has}
 use Rattle.landing_entries.specs.Entries.{terminalsIn}
 use Rattle.lent_tables.specs.SheetTables.{SheetTables}
@@ -34,15 +34,6 @@ use Rattle.plan_shares.specs.laws.Climbing.{top-alone, above-end, fewer-above}
 use Rattle.serving.specs.Parents.{noParent, ArcBetween, Parents, Ways}
 use Rattle.serving.specs.Seats.{maySeat, seatIn, isAboveSeat}
 use Rattle.file_shares.specs.PlanReady.{PlanReady}
-
--- how many numbers below n pass is at most n, and at least 1 where one passes
-passing-most : (f : ℕ → Bool) (n : ℕ) → sumTo n (λ v. bit (f v)) ≤ n
-passing-most f zero = omega arith
-passing-most f (suc n) = omega (arith, passing-most f n, bit-le (f n))
-
-passing-one : (f : ℕ → Bool) (n v : ℕ) → v < n → T (f v) → 1 ≤ sumTo n (λ u. bit (f u))
-passing-one f n v l t =
-    omega (arith, sumTo-zero n, sumTo-lt n v (λ _. 0) (λ u. bit (f u)) (λ _ _. omega arith) l (omega (arith, bit-passed (f v) t)))
 
 module _ {G : Graph} {root : ℕ} {file : List ℕ} {count k : ℕ} {t : SheetTables} {marks : List ℕ} (ready : PlanReady G root file count k t marks) where
   abbrev L : List ℕ

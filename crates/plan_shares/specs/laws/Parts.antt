@@ -9,7 +9,7 @@ use native.Mathlib.Nat.{div-add-mod', mod-lt, mul-comm}
 use lib.Dec.{T, eqb, ltb, ltb→lt, nltb→le}
 use Rattle.lists.specs.Tests.{by-fact, by-eq}
 use Rattle.lists.specs.Count.{bit}
-use Rattle.lists.specs.Sums.{sumBy, sumTo, sumTo-add, sumTo-zero}
+use Rattle.lists.specs.Sums.{sumBy, sumTo, sumTo-sumBy}
 use Rattle.graph.specs.Graph.{Graph}
 use Rattle.plan_shares.specs.Shares.{payersTo, partOf, unpaidOf, sitsBelow, payersAt, partAt, unpaidAt, shareOf, unassigned}
 
@@ -46,11 +46,6 @@ module _ (pays : ℕ → Bool) where
       omega (arith, paid-below (price / m) (price % m) k, div-add-mod' price m, mod-lt price one, mul-comm (price / m) m))
 
 -- ---- a plan
-
--- a sum of sums over a list is one sum over the list
-sumTo-sumBy : (k : ℕ) (f : ℕ → ℕ → ℕ) (L : List ℕ) → sumTo k (λ i. sumBy (λ e. f e i) L) ≡ sumBy (λ e. sumTo k (f e)) L
-sumTo-sumBy k f [] = sumTo-zero k
-sumTo-sumBy k f (e ∷ L) = sumTo-add k (f e) (λ i. sumBy (λ d. f d i) L) ∙ ap (λ (x : ℕ). sumTo k (f e) + x) (sumTo-sumBy k f L)
 
 module _ (G : Graph) (r : ℕ) (L : List ℕ) where
   -- "the shares and the unassigned sum make the total of leg prices"

@@ -7,10 +7,10 @@ use mathlib.Core.List.{List}
 use native.Mathlib.Omega.{arith}
 use lib.ListN.{length, getD, replicate, length-replicate, getD-replicate}
 use Rattle.limits.specs.Limits.{noCost}
-use Rattle.lists.specs.Sums.{sumTo, sumTo-more}
+use Rattle.lists.specs.Sums.{sumTo, sumTo-more, sumTo-fewer, sumTo-le}
 use Rattle.planfile.specs.Format.{listedArc}
 use Rattle.price_parts.specs.Splitting.{RoomFor, paidBy, paidByNone, weightAt, setAt, SplitInto, ArcReady, ArcSplit, ListedReady, ListedSplit}
-use Rattle.price_parts.specs.laws.PartSums.{part-le, unpaid-le, sumTo-fewer, sumTo-lower}
+use Rattle.price_parts.specs.laws.PriceParts.{part-le, unpaid-le}
 
 -- ---- what is asked at a record
 
@@ -39,7 +39,7 @@ module _ {file : List ℕ} {count : ℕ} {ends weights served : List ℕ} {k : �
           let part : ℕ → ℕ = λ n. paidBy k (setAt file ends served n) (weightAt file weights n) i in
           let inside : i < k = omega (arith, done .size) in
           let low : sumTo j part ≤ sumTo j (weightAt file weights) =
-          sumTo-lower j part (weightAt file weights) (λ n. part-le k (setAt file ends served n) (weightAt file weights n) i inside) in
+          sumTo-le j part (weightAt file weights) (λ n _. part-le k (setAt file ends served n) (weightAt file weights n) i inside) in
           omega (arith, done .paid i inside, weights-low j ready l, ap (λ (x : ℕ). getD weights x 0) here)
 
   -- what nobody pays stays a cost
@@ -49,7 +49,7 @@ module _ {file : List ℕ} {count : ℕ} {ends weights served : List ℕ} {k : �
   listed-fits {j} {e} {rest} {r} {shares} ready done l here split =
       let none : ℕ → ℕ = λ n. paidByNone k (setAt file ends served n) (weightAt file weights n) in
       let low : sumTo j none ≤ sumTo j (weightAt file weights) =
-      sumTo-lower j none (weightAt file weights) (λ n. unpaid-le k (setAt file ends served n) (weightAt file weights n)) in
+      sumTo-le j none (weightAt file weights) (λ n _. unpaid-le k (setAt file ends served n) (weightAt file weights n)) in
       omega (
         arith,
         done .unpaid,

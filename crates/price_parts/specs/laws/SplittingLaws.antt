@@ -15,12 +15,12 @@ use borrow.Author.Tests.{eq-eqb, ne-eqb}
 use Rattle.limits.specs.Limits.{noCost}
 use Rattle.lists.specs.Tests.{by-fact}
 use Rattle.lists.specs.Count.{bit}
-use Rattle.lists.specs.Sums.{sumTo-more}
+use Rattle.lists.specs.Sums.{sumTo-more, passing-most}
 use Rattle.subset.specs.Sets.{has}
+use Rattle.subset.specs.laws.Sizes.{ones-count}
 use Rattle.plan_shares.specs.Shares.{payersTo}
 use Rattle.price_parts.specs.Splitting.{payerPart, partIn, PaidAt, RoomFor, paidBy, SplitInto}
-use Rattle.price_parts.specs.laws.PayerCount.{size-payers, payers-le}
-use Rattle.price_parts.specs.laws.PartSums.{part-le, part-none}
+use Rattle.price_parts.specs.laws.PriceParts.{part-le, part-none}
 
 -- ---- one terminal
 
@@ -74,7 +74,7 @@ pub record Payers (payers k m : ℕ) : Type 0 where
   pub sized : m ≡ ones payers
 
 payers-number : {payers k m : ℕ} → Payers payers k m → m ≡ payersTo (has payers) k
-payers-number {payers} {k} p = p .sized ∙ size-payers k payers (p .below)
+payers-number {payers} {k} p = p .sized ∙ ones-count k payers (p .below)
 
 -- ---- nobody pays
 
@@ -115,7 +115,7 @@ part-fits {price} {payers} {before} {after} {i} m p t room l =
 
 -- no more terminals pay than there are below i
 pub payers-few : {price payers : ℕ} {before after : List ℕ} {i lower : ℕ} → PaidTo price payers before after i lower → lower ≤ i
-payers-few {price} {payers} {before} {after} {i} t = omega (arith, t .counted, payers-le (has payers) i)
+payers-few {price} {payers} {before} {after} {i} t = omega (arith, t .counted, passing-most (has payers) i)
 
 -- one terminal more
 pub paid-more : {price payers : ℕ} {before shares after : List ℕ} {i lower upto : ℕ} (m : ℕ) → Payers payers (length before) m

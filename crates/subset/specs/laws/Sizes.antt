@@ -1,4 +1,4 @@
--- Sizes: the number of ones of a set, of a part of it and of the rest. A set of size 1.
+-- Sizes: the number of ones of a set, of a part of it and of the rest. A set of size 1. The size counts the stations that the set has.
 -- The library has two of the laws: lib.Count.ones-ones (the size of `full k` is k) and ones-le (a set below 2^k has a size of at most k).
 -- Assumes nothing.
 use Prim.Native.Nat.{ℕ, zero, suc, _+_, _-_, _/_, _%_, _^_, _≤_, _<_}
@@ -8,8 +8,11 @@ use lib.Arith.{bin-ind}
 use lib.Bits.{and-step, and-le-l, and-zero-r}
 use lib.Count.{ones, ones-step, ones-ones}
 use lib.Dec.{T, eqb-refl}
+use Rattle.lists.specs.Tests.{by-eq}
+use Rattle.lists.specs.Count.{bit}
+use Rattle.lists.specs.Sums.{sumTo, sumTo-first, sumTo-same}
 use Rattle.subset.specs.Sets.{empty, single, has, Part}
-use Rattle.subset.specs.laws.Terminals.{single-half, single-even, has-single}
+use Rattle.subset.specs.laws.Terminals.{has-zero, has-suc, single-half, single-even, has-single}
 use Rattle.subset.specs.laws.Parts.{part-le}
 
 pub ones-empty : ones empty ≡ 0
@@ -18,6 +21,24 @@ ones-empty = ones-ones 0
 pub ones-single : (i : ℕ) → ones (single i) ≡ 1
 ones-single zero = ones-ones 1
 ones-single (suc i) = omega (arith, ones-step (2 ^ suc i), single-even i, ap ones (single-half i), ones-single i)
+
+-- the size of a set below 2^k is the number of the stations below k that are in it; by the set's halves: station 0 is its last digit, and the others
+-- are the stations of its half
+pub ones-count : (k w : ℕ) → w < 2 ^ k → ones w ≡ sumTo k (λ i. bit (has w i))
+ones-count zero w l =
+    let z : w ≡ 0 = omega arith in
+    ap ones z ∙ ones-ones 0
+ones-count (suc k) w l = omega (
+  arith,
+  ones-count k (w / 2) (omega arith),
+  ones-step w,
+  sumTo-first k (λ i. bit (has w i)),
+  lowest,
+  sumTo-same k (λ i. bit (has w (suc i))) (λ i. bit (has (w / 2) i)) (λ i _. ap bit (has-suc w i)),
+)
+  where
+    lowest : bit (has w 0) ≡ w % 2
+    lowest = ap bit (has-zero w) ∙ by-eq (w % 2) 1 (λ b. bit b ≡ w % 2) (λ e. sym e) (λ n. omega arith)
 
 -- a set that is not empty has a size of 1 or more
 pub ones-pos : (w : ℕ) → 0 < w → 1 ≤ ones w
