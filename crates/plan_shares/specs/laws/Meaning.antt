@@ -1,0 +1,92 @@
+-- What the definitions of specs/Shares.antt say, in the words of document 02, W-204: where a station sits; which stations sit at or below a site; who
+-- pays more of a price.
+-- Assumes nothing.
+use Prim.Native.Nat.{ℕ, zero, suc, _+_, _/_, _%_, _≤_, _<_}
+use mathlib.Core.Path.{_≡_, refl, sym, subst}
+use mathlib.Core.Logic.{_↔_}
+use mathlib.Core.Bool.{Bool, not, _&&_, cond}
+use mathlib.Core.Option.{Option, some}
+use mathlib.Core.List.{List}
+use native.Mathlib.Omega.{arith}
+use native.Mathlib.Decide.{ℕ-discrete}
+use lib.Dec.{T, ltb, ltb→lt, nltb→le}
+use Rattle.lists.specs.Tests.{by-fact, not-both, and-left, and-right, and-both, choice-first}
+use Rattle.lists.specs.Count.{bit}
+use Rattle.lists.specs.Listed.{listed}
+use Rattle.lists.specs.Find.{first-says}
+use Rattle.subset.specs.Sets.{has}
+use Rattle.graph.specs.Graph.{Graph, Landing}
+use Rattle.graph.specs.Paths.{DirectedPath}
+use Rattle.graph.specs.Subtrees.{held}
+use Rattle.graph.specs.Theorems.{reach-test}
+use Rattle.graph.specs.laws.Reaching.{path-same}
+use Rattle.graph.specs.laws.ReachTest.{path-reached}
+use Rattle.plan_shares.specs.Shares.{payersTo, partOf, seat, isBelow, sitsBelow}
+
+-- ---- seats
+
+-- "A station sits at its lowest-numbered landing in a sending plan": the plan holds the seat, which is a landing, and no lower landing
+pub seat-lowest : (G : Graph) (r : ℕ) (L : List ℕ) (i u : ℕ) → seat G r L i ≡ some u
+    → (u < G .nodes) × T (listed u (held G r L)) × Landing G i u × ((v : ℕ) → v < u → T (listed v (held G r L)) → Landing G i v → ⊥)
+seat-lowest G r L i u sits =
+    let (on, found, none-lower) = first-says lands (G .nodes) (some u) sits in (
+      on,
+      and-left (listed u (held G r L)) (has (G .landings u) i) found,
+      and-right (listed u (held G r L)) (has (G .landings u) i) found,
+      λ v l at land. not-both (lands v) (and-both (listed v (held G r L)) (has (G .landings v) i) at land) (none-lower v l),
+    )
+  where
+    lands : ℕ → Bool
+    lands v = listed v (held G r L) && has (G .landings v) i
+
+-- a station sits "at or below" its own seat
+pub sits-at : (G : Graph) (r : ℕ) (L : List ℕ) (i u : ℕ) → seat G r L i ≡ some u → T (sitsBelow G r L u i)
+sits-at G r L i u sits = subst (λ (o : Option ℕ). T (isBelow G r L u o)) (sym sits) (path-reached G L u u (path-same G L refl))
+
+-- it sits at or below exactly the sites from which a directed path of listed legs leads to its seat
+pub sits-below-iff : (G : Graph) (r : ℕ) (L : List ℕ) (i u v : ℕ) → seat G r L i ≡ some u → T (sitsBelow G r L v i) ↔ DirectedPath G L v u
+sits-below-iff G r L i u v sits = subst (λ (o : Option ℕ). T (isBelow G r L v o) ↔ DirectedPath G L v u) (sym sits) (reach-test G L v u)
+
+-- ---- parts of a price
+
+module _ (pays : ℕ → Bool) where
+  -- no fewer payers are below j than below a lower i
+  payers-mono : (i j : ℕ) → i ≤ j → payersTo pays i ≤ payersTo pays j
+  payers-mono i zero l =
+      let e : 0 ≡ i = omega arith in
+      subst (λ (x : ℕ). payersTo pays x ≤ 0) e (omega arith)
+  payers-mono i (suc j) l = go (ℕ-discrete i (suc j)) (λ h. payers-mono i j h)
+    where
+      go : Dec (i ≡ suc j) → (i ≤ j → payersTo pays i ≤ payersTo pays j) → payersTo pays i ≤ payersTo pays (suc j)
+      go (yes e) below = subst (λ (x : ℕ). payersTo pays i ≤ payersTo pays x) e (omega arith)
+      go (no n) below = omega (arith, below (omega arith))
+
+  -- "the lowest stations pay one cent more until the remainder is used": of two payers the lower pays as much as the higher, or one cent more
+  pub lower-pays-more : (m price i j : ℕ) → i < j → T (pays i) → T (pays j)
+      → (partOf pays m price j ≤ partOf pays m price i) × (partOf pays m price i ≤ partOf pays m price j + 1)
+  lower-pays-more m price i j l pi pj = (omega (arith, of-i, of-j, odd .0), omega (arith, of-i, of-j, odd .1))
+    where
+      oddCent : ℕ → ℕ
+      oddCent x = bit (ltb (payersTo pays x) (price % m))
+
+      of-i : partOf pays m price i ≡ price / m + oddCent i
+      of-i = choice-first (pays i) (price / m + oddCent i) 0 pi
+
+      of-j : partOf pays m price j ≡ price / m + oddCent j
+      of-j = choice-first (pays j) (price / m + oddCent j) 0 pj
+
+      odd : (oddCent j ≤ oddCent i) × (oddCent i ≤ oddCent j + 1)
+      odd =
+          let a : ℕ = payersTo pays i in
+          let b : ℕ = payersTo pays j in
+          let rest : ℕ = price % m in
+          let more : a ≤ b = payers-mono i j (omega arith) in
+          by-fact (ltb a rest) (λ x. (bit (ltb b rest) ≤ bit x) × (bit x ≤ bit (ltb b rest) + 1))
+          (λ _. by-fact (ltb b rest) (λ y. (bit y ≤ 1) × (1 ≤ bit y + 1)) (λ _. (omega arith, omega arith)) (λ _. (omega arith, omega arith)))
+          (λ s. by-fact (ltb b rest) (λ y. (bit y ≤ 0) × (0 ≤ bit y + 1))
+          (λ t. absurd (omega (arith, more, nltb→le a rest s, ltb→lt b rest t))) (λ _. (omega arith, omega arith)))
+
+  -- who does not pay pays nothing
+  pub unpaid-alone : (m price i : ℕ) → T (not (pays i)) → partOf pays m price i ≡ 0
+  unpaid-alone m price i out =
+      by-fact (pays i) (λ b. T (not b) → cond b (price / m + bit (ltb (payersTo pays i) (price % m))) 0 ≡ 0) (λ _ t. absurd t) (λ _ _. refl) out
