@@ -1,4 +1,4 @@
--- what the definitions say in the document's words
+-- what the definitions say, in the document's words
 pub mod Meaning
 -- what is above a node in a subtree, arc by arc upward
 pub mod Climbing

@@ -2,48 +2,43 @@
 -- sits at or below the end of each arc: nothing is unassigned.
 -- Assumes nothing.
 use Prim.Native.Nat.{ℕ, _+_, _≤_, _<_}
-use mathlib.Core.Path.{_≡_, refl, sym, ap, subst}
+use mathlib.Core.Path.{_≡_, refl, sym, ap}
 use mathlib.Core.Logic.{_⊎_, inl, inr, ⊎-elim}
-use mathlib.Core.Bool.{Bool, not, _&&_, cond}
+use mathlib.Core.Bool.{Bool, not}
 use mathlib.Core.Option.{Option, none, some}
 use mathlib.Core.List.{List}
 use native.Mathlib.Omega.{arith}
 use native.Mathlib.Decide.{ℕ-discrete}
 use lib.Dec.{T, eqb, eqb-refl}
-use Rattle.lists.specs.Tests.{by-fact, by-eq, ne-fact, not-both, and-left, and-right, and-both}
+use Rattle.lists.specs.Tests.{by-fact, ne-fact, not-both}
 use Rattle.lists.specs.Count.{bit, bit-passed}
 use Rattle.lists.specs.Select.{select}
 use Rattle.lists.specs.Listed.{listed, listed-select, select-listed, listed-count, count-listed, unlisted-count, Distinct}
-use Rattle.lists.specs.Find.{first-says}
 use Rattle.lists.specs.Sums.{sumBy, sum-at-most, sum-entry, count-sum, sumTo-zero, sumTo-lt}
 use Rattle.lists.specs.Remaining.{remaining, sum-remaining}
-use Rattle.subset.specs.Sets.{has}
 use Rattle.graph.specs.Graph.{Graph, Sound, Landing}
-use Rattle.graph.specs.Paths.{DirectedPath, isReached}
+use Rattle.graph.specs.Paths.{DirectedPath}
 use Rattle.graph.specs.Subtrees.{Subtree, held, CoversAll, total}
 use Rattle.graph.specs.Growth.{kept}
 use Rattle.graph.specs.laws.Reaching.{path-same, path-then, path-carries}
-use Rattle.graph.specs.laws.ReachTest.{path-reached}
 use Rattle.graph.specs.laws.Holding.{held-reached}
 use Rattle.graph.specs.laws.SubtreeParts.{cost, total-by-arc, arc-of, start-reached, held-lt}
 use Rattle.graph.specs.laws.UniquePaths.{subtree-distinct}
 use Rattle.graph.specs.laws.Growing.{kept-listed, kept-subtree, reached-kept}
-use Rattle.plan_shares.specs.Shares.{payersTo, seat, isBelow, sitsBelow, payersAt, unpaidAt, unassigned}
+use Rattle.plan_shares.specs.Shares.{payersTo, seat, sitsBelow, payersAt, unpaidAt, unassigned}
+use Rattle.plan_shares.specs.laws.Meaning.{seat-lowest, seat-none, sits-below-iff}
+use Rattle.plan_shares.specs.laws.Parts.{served-paid}
 
 -- where a plan holds a landing of terminal i, the terminal has a seat, which the plan holds
 pub seat-held : (G : Graph) → Sound G → (r : ℕ) (L : List ℕ) → Subtree G r L → (i v : ℕ) → T (listed v (held G r L)) → Landing G i v
     → (u : ℕ) × (seat G r L i ≡ some u) × T (listed u (held G r L)) × Landing G i u
 seat-held G sound r L s i v at land = go (seat G r L i) refl
   where
-    lands : ℕ → Bool
-    lands u = listed u (held G r L) && has (G .landings u) i
-
     go : (o : Option ℕ) → seat G r L i ≡ o → (u : ℕ) × (seat G r L i ≡ some u) × T (listed u (held G r L)) × Landing G i u
-    go none q = absurd (not-both (lands v) (and-both (listed v (held G r L)) (has (G .landings v) i) at land)
-        (first-says lands (G .nodes) none q v (held-lt s sound v at)))
+    go none q = absurd (seat-none G r L i q v (held-lt s sound v at) at land)
     go (some u) q =
-        let (_, t, _) = first-says lands (G .nodes) (some u) q in
-        (u, q, and-left (listed u (held G r L)) (has (G .landings u) i) t, and-right (listed u (held G r L)) (has (G .landings u) i) t)
+        let (_, seat-at, lands, _) = seat-lowest G r L i u q in
+        (u, q, seat-at, lands)
 
 -- where none of the terminals below n pays, terminal i of them does not
 none-pays : (pays : ℕ → Bool) (n i : ℕ) → payersTo pays n ≡ 0 → i < n → T (not (pays i))
@@ -119,10 +114,9 @@ module _ (G : Graph) (sound : Sound G) (r : ℕ) (L : List ℕ) (s : Subtree G r
       -- a seat is not at or below the end of the arc, so it is still reached
       still-reached : (i u : ℕ) → i < G .terminals → seat G r L i ≡ some u → T (listed u (held G r L)) → DirectedPath G N r u
       still-reached i u l sits at =
-          let apart : T (not (isReached G L (G .end e) u)) =
-          subst (λ (o : Option ℕ). T (not (isBelow G r L (G .end e) o))) sits (none-pays (sitsBelow G r L (G .end e)) (G .terminals) i nobody l) in
+          let apart : T (not (sitsBelow G r L (G .end e) i)) = none-pays (sitsBelow G r L (G .end e)) (G .terminals) i nobody l in
           ⊎-elim (λ (p : DirectedPath G N r u). p)
-          (λ (p : DirectedPath G L (G .end e) u). absurd (not-both (isReached G L (G .end e) u) (path-reached G L (G .end e) u p) apart))
+          (λ (p : DirectedPath G L (G .end e) u). absurd (not-both (sitsBelow G r L (G .end e) i) (sits-below-iff G r L i u (G .end e) sits .1 p) apart))
           (detour G r e L (held-reached G r L (start-reached s) u at))
 
       all : CoversAll G r K
@@ -136,5 +130,5 @@ module _ (G : Graph) (sound : Sound G) (r : ℕ) (L : List ℕ) (s : Subtree G r
   none-unassigned = omega (
     arith,
     sum-at-most (λ e. unpaidAt G r L (G .end e) (G .weight e)) 0 L
-        (λ e t. by-eq (payersAt G r L (G .end e)) 0 (λ b. cond b (G .weight e) 0 ≤ 0) (λ nobody. absurd (serves e t nobody)) (λ _. omega arith)),
+        (λ e t. omega (arith, served-paid (payersAt G r L (G .end e)) (G .weight e) (serves e t))),
   )

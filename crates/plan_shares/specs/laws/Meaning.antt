@@ -5,7 +5,7 @@ use Prim.Native.Nat.{ℕ, zero, suc, _+_, _/_, _%_, _≤_, _<_}
 use mathlib.Core.Path.{_≡_, refl, sym, subst}
 use mathlib.Core.Logic.{_↔_}
 use mathlib.Core.Bool.{Bool, not, _&&_, cond}
-use mathlib.Core.Option.{Option, some}
+use mathlib.Core.Option.{Option, none, some}
 use mathlib.Core.List.{List}
 use native.Mathlib.Omega.{arith}
 use native.Mathlib.Decide.{ℕ-discrete}
@@ -25,27 +25,34 @@ use Rattle.plan_shares.specs.Shares.{payersTo, partOf, seat, isBelow, si
 
 -- ---- seats
 
--- "A station sits at its lowest-numbered landing in a sending plan": the plan holds the seat, which is a landing, and no lower landing
-pub seat-lowest : (G : Graph) (r : ℕ) (L : List ℕ) (i u : ℕ) → seat G r L i ≡ some u
-    → (u < G .nodes) × T (listed u (held G r L)) × Landing G i u × ((v : ℕ) → v < u → T (listed v (held G r L)) → Landing G i v → ⊥)
-seat-lowest G r L i u sits =
-    let (on, found, none-lower) = first-says lands (G .nodes) (some u) sits in (
-      on,
-      and-left (listed u (held G r L)) (has (G .landings u) i) found,
-      and-right (listed u (held G r L)) (has (G .landings u) i) found,
-      λ v l at land. not-both (lands v) (and-both (listed v (held G r L)) (has (G .landings v) i) at land) (none-lower v l),
-    )
-  where
-    lands : ℕ → Bool
-    lands v = listed v (held G r L) && has (G .landings v) i
+module _ (G : Graph) (r : ℕ) (L : List ℕ) (i : ℕ) where
+  -- the plan holds node v, which is a landing of terminal i
+  abbrev lands : ℕ → Bool
+  lands v = listed v (held G r L) && has (G .landings v) i
 
--- a station sits "at or below" its own seat
-pub sits-at : (G : Graph) (r : ℕ) (L : List ℕ) (i u : ℕ) → seat G r L i ≡ some u → T (sitsBelow G r L u i)
-sits-at G r L i u sits = subst (λ (o : Option ℕ). T (isBelow G r L u o)) (sym sits) (path-reached G L u u (path-same G L refl))
+  -- "A station sits at its lowest-numbered landing in a sending plan": the plan holds the seat, which is a landing, and no lower landing
+  pub seat-lowest : (u : ℕ) → seat G r L i ≡ some u
+      → (u < G .nodes) × T (listed u (held G r L)) × Landing G i u × ((v : ℕ) → v < u → T (listed v (held G r L)) → Landing G i v → ⊥)
+  seat-lowest u sits =
+      let (on, found, none-lower) = first-says lands (G .nodes) (some u) sits in (
+        on,
+        and-left (listed u (held G r L)) (has (G .landings u) i) found,
+        and-right (listed u (held G r L)) (has (G .landings u) i) found,
+        λ v l at land. not-both (lands v) (and-both (listed v (held G r L)) (has (G .landings v) i) at land) (none-lower v l),
+      )
 
--- it sits at or below exactly the sites from which a directed path of listed legs leads to its seat
-pub sits-below-iff : (G : Graph) (r : ℕ) (L : List ℕ) (i u v : ℕ) → seat G r L i ≡ some u → T (sitsBelow G r L v i) ↔ DirectedPath G L v u
-sits-below-iff G r L i u v sits = subst (λ (o : Option ℕ). T (isBelow G r L v o) ↔ DirectedPath G L v u) (sym sits) (reach-test G L v u)
+  -- where it has no seat, the plan holds no landing of it
+  pub seat-none : seat G r L i ≡ none → (v : ℕ) → v < G .nodes → T (listed v (held G r L)) → Landing G i v → ⊥
+  seat-none nowhere v on at land =
+      not-both (lands v) (and-both (listed v (held G r L)) (has (G .landings v) i) at land) (first-says lands (G .nodes) none nowhere v on)
+
+  -- a station sits "at or below" its own seat
+  pub sits-at : (u : ℕ) → seat G r L i ≡ some u → T (sitsBelow G r L u i)
+  sits-at u sits = subst (λ (o : Option ℕ). T (isBelow G r L u o)) (sym sits) (path-reached G L u u (path-same G L refl))
+
+  -- it sits at or below exactly the sites from which a directed path of listed legs leads to its seat
+  pub sits-below-iff : (u v : ℕ) → seat G r L i ≡ some u → T (sitsBelow G r L v i) ↔ DirectedPath G L v u
+  sits-below-iff u v sits = subst (λ (o : Option ℕ). T (isBelow G r L v o) ↔ DirectedPath G L v u) (sym sits) (reach-test G L v u)
 
 -- ---- parts of a price
 
@@ -86,7 +93,7 @@ module _ (pays : ℕ → Bool) where
           (λ s. by-fact (ltb b rest) (λ y. (bit y ≤ 0) × (0 ≤ bit y + 1))
           (λ t. absurd (omega (arith, more, nltb→le a rest s, ltb→lt b rest t))) (λ _. (omega arith, omega arith)))
 
-  -- who does not pay pays nothing
-  pub unpaid-alone : (m price i : ℕ) → T (not (pays i)) → partOf pays m price i ≡ 0
-  unpaid-alone m price i out =
+  -- only the payers pay
+  pub others-pay-nothing : (m price i : ℕ) → T (not (pays i)) → partOf pays m price i ≡ 0
+  others-pay-nothing m price i out =
       by-fact (pays i) (λ b. T (not b) → cond b (price / m + bit (ltb (payersTo pays i) (price % m))) 0 ≡ 0) (λ _ t. absurd t) (λ _ _. refl) out

@@ -2,6 +2,7 @@
 -- Assumes nothing.
 use Prim.Native.Nat.{ℕ, zero, suc, _+_, _*_, _/_, _%_, _≤_, _<_, min}
 use mathlib.Core.Path.{_≡_, refl, ap, _∙_}
+use mathlib.Core.Logic.{_≢_}
 use mathlib.Core.Bool.{Bool, cond}
 use mathlib.Core.List.{List, [], _∷_}
 use native.Mathlib.Omega.{arith}
@@ -44,6 +45,10 @@ module _ (pays : ℕ → Bool) where
       (λ some.
       let one : 1 ≤ m = omega arith in
       omega (arith, paid-below (price / m) (price % m) k, div-add-mod' price m, mod-lt price one, mul-comm (price / m) m))
+
+-- where somebody pays, nothing is unpaid
+pub served-paid : (m price : ℕ) → m ≢ 0 → unpaidOf m price ≡ 0
+served-paid m price n = by-eq m 0 (λ b. cond b price 0 ≡ 0) (λ e. absurd (n e)) (λ _. refl)
 
 -- ---- a plan
 
