@@ -49,11 +49,8 @@ impl FurtherLengths {
         ensures { λ r. ⌜ r ≡ shareLengths marks shares ⌝ }
     {
         FurtherLengths {
-            by_end: TableLength::NotNeeded,
-            places: TableLength::NotNeeded,
-            cells: TableLength::NotNeeded,
-            marks: TableLength::Entries(marks),
             shares: TableLength::Entries(shares),
+            ..FurtherLengths::of_marks(marks)
         }
     }
 
