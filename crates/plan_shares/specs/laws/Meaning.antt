@@ -41,20 +41,20 @@ module _ (G : Graph) (r : ℕ) (L : List ℕ) (i : ℕ) where
         λ v l at land. not-both (lands v) (and-both (listed v (held G r L)) (has (G .landings v) i) at land) (none-lower v l),
       )
 
-  -- where it has no seat, the plan holds no landing of it
+  -- where terminal i has no seat, the plan holds no landing of it
   pub seat-none : seat G r L i ≡ none → (v : ℕ) → v < G .nodes → T (listed v (held G r L)) → Landing G i v → ⊥
   seat-none nowhere v on at land =
       not-both (lands v) (and-both (listed v (held G r L)) (has (G .landings v) i) at land) (first-says lands (G .nodes) none nowhere v on)
 
-  -- a station sits "at or below" its own seat
+  -- terminal i sits "at or below" its own seat
   pub sits-at : (u : ℕ) → seat G r L i ≡ some u → T (sitsBelow G r L u i)
   sits-at u sits = subst (λ (o : Option ℕ). T (isBelow G r L u o)) (sym sits) (path-reached G L u u (path-same G L refl))
 
-  -- it sits at or below exactly the sites from which a directed path of listed legs leads to its seat
+  -- and at or below exactly the nodes from which a directed path of listed arcs leads to its seat
   pub sits-below-iff : (u v : ℕ) → seat G r L i ≡ some u → T (sitsBelow G r L v i) ↔ DirectedPath G L v u
   sits-below-iff u v sits = subst (λ (o : Option ℕ). T (isBelow G r L v o) ↔ DirectedPath G L v u) (sym sits) (reach-test G L v u)
 
--- ---- parts of a price
+-- ---- parts of a price: with `parts-whole` of specs/laws/Parts.antt, which says what they make, these leave one way to split it
 
 module _ (pays : ℕ → Bool) where
   -- no fewer payers are below j than below a lower i
@@ -68,7 +68,7 @@ module _ (pays : ℕ → Bool) where
       go (yes e) below = subst (λ (x : ℕ). payersTo pays i ≤ payersTo pays x) e (omega arith)
       go (no n) below = omega (arith, below (omega arith))
 
-  -- "the lowest stations pay one cent more until the remainder is used": of two payers the lower pays as much as the higher, or one cent more
+  -- "the lowest stations pay one cent more until the remainder is used": of two payers the lower pays as much as the higher or one cent more
   pub lower-pays-more : (m price i j : ℕ) → i < j → T (pays i) → T (pays j)
       → (partOf pays m price j ≤ partOf pays m price i) × (partOf pays m price i ≤ partOf pays m price j + 1)
   lower-pays-more m price i j l pi pj = (omega (arith, of-i, of-j, odd .0), omega (arith, of-i, of-j, odd .1))
