@@ -10,7 +10,8 @@ from pathlib import Path
 from typing import Union
 
 from brute import cells_by_growth, network_of, planned
-from uldhvamm import BothWays, Landing, Leg, Plan, Refusal, Row, Sender, build_plan, build_sheet, load
+from shares import Split, split_of
+from uldhvamm import BothWays, Landing, Leg, Plan, Refusal, Row, Sender, Shares, build_plan, build_sheet, load
 from worked import SHEETS
 
 SAMPLES = Path(__file__).resolve().parents[2] / "samples"
@@ -89,6 +90,13 @@ class Samples(unittest.TestCase):
         assert isinstance(answer, Plan)
         self.assertEqual(answer.file, build_plan(*expected))
         self.assertEqual([cells[site][31] for site in (0, 11)], [92000, 80500])
+
+    def test_the_shares_of_the_fjord_are_those_of_the_definition(self) -> None:
+        legs = [12, 13, 28, 25, 19]
+        split = split_of(network_of(12, 5, FJORD), 5, legs)
+        self.assertEqual(split, Split((22167, 22167, 0, 25500, 10666), 0))
+        answer = load().shares(build_sheet(12, 5, FJORD), build_plan(5, 80500, legs))
+        self.assertEqual(answer, Shares(5, 80500, 5, split.shares, split.unassigned))
 
     def test_the_plans_of_licence_and_unlicensed_are_those_by_trial(self) -> None:
         cells = cells_by_growth(network_of(4, 2, LICENCE))

@@ -11,10 +11,10 @@ use native.Mathlib.Omega.{arith}
 use native.Mathlib.Decide.{ℕ-discrete}
 use lib.Dec.{T, eqb, eqb-refl}
 use Rattle.lists.specs.Tests.{by-fact, ne-fact, not-both}
-use Rattle.lists.specs.Count.{bit, bit-passed}
+use Rattle.lists.specs.Count.{bit}
 use Rattle.lists.specs.Select.{select}
 use Rattle.lists.specs.Listed.{listed, listed-select, select-listed, listed-count, count-listed, unlisted-count, Distinct}
-use Rattle.lists.specs.Sums.{sumBy, sum-at-most, sum-entry, count-sum, sumTo-zero, sumTo-lt}
+use Rattle.lists.specs.Sums.{sumBy, sum-at-most, sum-entry, count-sum, passing-one}
 use Rattle.lists.specs.Remaining.{remaining, sum-remaining}
 use Rattle.graph.specs.Graph.{Graph, Sound, Landing}
 use Rattle.graph.specs.Paths.{DirectedPath}
@@ -42,9 +42,7 @@ seat-held G sound r L s i v at land = go (seat G r L i) refl
 
 -- where none of the terminals below n pays, terminal i of them does not
 none-pays : (pays : ℕ → Bool) (n i : ℕ) → payersTo pays n ≡ 0 → i < n → T (not (pays i))
-none-pays pays n i nobody l = by-fact (pays i) (λ b. T (not b))
-    (λ t. absurd (omega (arith, sumTo-zero n, sumTo-lt n i (λ _. 0) (λ j. bit (pays j)) (λ _ _. omega arith) l (omega (arith, bit-passed (pays i) t)))))
-    (λ _. tt)
+none-pays pays n i nobody l = by-fact (pays i) (λ b. T (not b)) (λ t. absurd (omega (arith, passing-one pays n i l t))) (λ _. tt)
 
 -- ---- a list without one of its arcs
 

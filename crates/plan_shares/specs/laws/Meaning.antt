@@ -1,19 +1,19 @@
 -- What the definitions of specs/Shares.antt say, in the words of document 02, W-204: where a station sits; which stations sit at or below a site; who
 -- pays more of a price.
 -- Assumes nothing.
-use Prim.Native.Nat.{ℕ, zero, suc, _+_, _/_, _%_, _≤_, _<_}
+use Prim.Native.Nat.{ℕ, _+_, _/_, _%_, _≤_, _<_}
 use mathlib.Core.Path.{_≡_, refl, sym, subst}
 use mathlib.Core.Logic.{_↔_}
 use mathlib.Core.Bool.{Bool, not, _&&_, cond}
 use mathlib.Core.Option.{Option, none, some}
 use mathlib.Core.List.{List}
 use native.Mathlib.Omega.{arith}
-use native.Mathlib.Decide.{ℕ-discrete}
 use lib.Dec.{T, ltb, ltb→lt, nltb→le}
 use Rattle.lists.specs.Tests.{by-fact, not-both, and-left, and-right, and-both, choice-first}
 use Rattle.lists.specs.Count.{bit}
 use Rattle.lists.specs.Listed.{listed}
 use Rattle.lists.specs.Find.{first-says}
+use Rattle.lists.specs.Sums.{sumTo-fewer}
 use Rattle.subset.specs.Sets.{has}
 use Rattle.graph.specs.Graph.{Graph, Landing}
 use Rattle.graph.specs.Paths.{DirectedPath}
@@ -57,17 +57,6 @@ module _ (G : Graph) (r : ℕ) (L : List ℕ) (i : ℕ) where
 -- ---- parts of a price: with `parts-whole` of specs/laws/Parts.antt, which says what they make, these leave one way to split it
 
 module _ (pays : ℕ → Bool) where
-  -- no fewer payers are below j than below a lower i
-  payers-mono : (i j : ℕ) → i ≤ j → payersTo pays i ≤ payersTo pays j
-  payers-mono i zero l =
-      let e : 0 ≡ i = omega arith in
-      subst (λ (x : ℕ). payersTo pays x ≤ 0) e (omega arith)
-  payers-mono i (suc j) l = go (ℕ-discrete i (suc j)) (λ h. payers-mono i j h)
-    where
-      go : Dec (i ≡ suc j) → (i ≤ j → payersTo pays i ≤ payersTo pays j) → payersTo pays i ≤ payersTo pays (suc j)
-      go (yes e) below = subst (λ (x : ℕ). payersTo pays i ≤ payersTo pays x) e (omega arith)
-      go (no n) below = omega (arith, below (omega arith))
-
   -- "the lowest stations pay one cent more until the remainder is used": of two payers the lower pays as much as the higher or one cent more
   pub lower-pays-more : (m price i j : ℕ) → i < j → T (pays i) → T (pays j)
       → (partOf pays m price j ≤ partOf pays m price i) × (partOf pays m price i ≤ partOf pays m price j + 1)
@@ -87,7 +76,7 @@ module _ (pays : ℕ → Bool) where
           let a : ℕ = payersTo pays i in
           let b : ℕ = payersTo pays j in
           let rest : ℕ = price % m in
-          let more : a ≤ b = payers-mono i j (omega arith) in
+          let more : a ≤ b = sumTo-fewer i j (λ x. bit (pays x)) (omega arith) in
           by-fact (ltb a rest) (λ x. (bit (ltb b rest) ≤ bit x) × (bit x ≤ bit (ltb b rest) + 1))
           (λ _. by-fact (ltb b rest) (λ y. (bit y ≤ 1) × (1 ≤ bit y + 1)) (λ _. (omega arith, omega arith)) (λ _. (omega arith, omega arith)))
           (λ s. by-fact (ltb b rest) (λ y. (bit y ≤ 0) × (0 ≤ bit y + 1))
