@@ -30,13 +30,13 @@ isAboveSeat ways u none = false
 isAboveSeat ways u (some seat) = ways .isAbove u seat
 
 -- terminal i is entered at each node above its seat
-pub record StationEnteredBy (parents : List ℕ) (ways : Ways parents) (marks landings : List ℕ) (i : ℕ) (before after : List ℕ) : Type 0 where
+pub record TerminalEnteredBy (parents : List ℕ) (ways : Ways parents) (marks landings : List ℕ) (i : ℕ) (before after : List ℕ) : Type 0 where
   pub size : length after ≡ length before
   pub at : (u : ℕ) → u < length before → (j : ℕ)
       → has (getD after u 0) j ≡ (has (getD before u 0) j || (eqb i j && isAboveSeat ways u (seatIn marks landings i)))
 
-abbrev pub StationEntered : (parents marks landings : List ℕ) (i : ℕ) (before after : List ℕ) → Type 0
-StationEntered parents marks landings i before after = (ways : Ways parents) → StationEnteredBy parents ways marks landings i before after
+abbrev pub TerminalEntered : (parents marks landings : List ℕ) (i : ℕ) (before after : List ℕ) → Type 0
+TerminalEntered parents marks landings i before after = (ways : Ways parents) → TerminalEnteredBy parents ways marks landings i before after
 
 -- no terminal is entered
 abbrev pub NoneServed : List ℕ → Type 0

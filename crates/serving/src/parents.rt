@@ -27,14 +27,14 @@ pub fn set_parents(file: &[u8], count: u16, starts: &[u16], ends: &[u16], parent
 }
 
 // The station is entered at a seat and at each site above it. A way up has fewer steps than there are sites.
-pub fn enter_above(parents: &[u16], seat: usize, station: Subset, served: &mut [u16])
+pub fn enter_above(parents: &[u16], seat: usize, terminal: Subset, served: &mut [u16])
     requires { ⌜ Ways (now parents) × (seat < length (now parents)) × (length (now parents) ≤ length (now served)) ⌝ }
-    ensures { λ _. ⌜ Entered (now (parents .entry)) seat (station .0) (now (served .entry)) (now (served .exit)) ⌝ }
+    ensures { λ _. ⌜ Entered (now (parents .entry)) seat (terminal .0) (now (served .entry)) (now (served .exit)) ⌝ }
 {
     let mut v = seat;
     let mut steps = 0;
     while steps < parents.len() {
-        let entered = Subset(served[v]).union(station);
+        let entered = Subset(served[v]).union(terminal);
         served[v] = entered.0;
         let parent = parents[v];
         if parent == NO_PARENT {

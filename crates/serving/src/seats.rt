@@ -11,7 +11,7 @@ ghost use Rattle.limits.specs.Limits.{maxTerminals};
 ghost use Rattle.subset.specs.Sets.{has};
 ghost use Rattle.landing_entries.specs.Entries.{terminalsIn};
 ghost use Rattle.serving.specs.Parents.{Ways};
-ghost use Rattle.serving.specs.Seats.{foundAt, seatIn, StationEntered, NoneServed, Served};
+ghost use Rattle.serving.specs.Seats.{foundAt, seatIn, TerminalEntered, NoneServed, Served};
 
 // Whether station i can be heard at a site with this mark and this landing entry, and the site is marked.
 fn may_seat(mark: u8, entry: u16, i: u8) -> bool
@@ -40,10 +40,10 @@ fn seat_of(marks: &[u8], landings: &[u16], i: u8) -> usize
 }
 
 // Station i is entered at its seat and at each site above it.
-fn enter_station(parents: &[u16], marks: &[u8], landings: &[u16], i: u8, served: &mut [u16])
+fn enter_terminal(parents: &[u16], marks: &[u8], landings: &[u16], i: u8, served: &mut [u16])
     requires { ⌜ Ways (now parents) × (i < maxTerminals) × (length (now marks) ≤ length (now landings))
         × (length (now marks) ≤ length (now parents)) × (length (now parents) ≤ length (now served)) ⌝ }
-    ensures { λ _. ⌜ StationEntered (now (parents .entry)) (now (marks .entry)) (now (landings .entry)) i (now (served .entry)) (now (served .exit)) ⌝ }
+    ensures { λ _. ⌜ TerminalEntered (now (parents .entry)) (now (marks .entry)) (now (landings .entry)) i (now (served .entry)) (now (served .exit)) ⌝ }
 {
     let seat = seat_of(marks, landings, i);
     if seat < marks.len() {
@@ -59,7 +59,7 @@ pub fn serve(parents: &[u16], marks: &[u8], landings: &[u16], k: u8, served: &mu
 {
     let mut i = 0;
     while i < k {
-        enter_station(parents, marks, landings, i, served);
+        enter_terminal(parents, marks, landings, i, served);
         i += 1;
     }
 }

@@ -30,7 +30,7 @@ use Rattle.marking.specs.Links.{Within}
 use Rattle.reaching.specs.Marks.{marksOf}
 use Rattle.reaching.specs.laws.MarkLaws.{mark-at}
 use Rattle.plan_shares.specs.Shares.{seat, isBelow}
-use Rattle.plan_shares.specs.laws.Climbing.{top-alone, above-end, fewer-above}
+use Rattle.plan_shares.specs.laws.Above.{top-alone, above-end, fewer-above}
 use Rattle.serving.specs.Parents.{noParent, ArcBetween, Parents, Ways}
 use Rattle.serving.specs.Seats.{maySeat, seatIn, isAboveSeat}
 use Rattle.file_shares.specs.PlanReady.{PlanReady}

@@ -16,7 +16,7 @@ use Rattle.lists.specs.Tests.{ltb-suc, true-fact, false-not-fact}
 use Rattle.subset.specs.Sets.{has, single}
 use Rattle.subset.specs.laws.Terminals.{has-single, has-empty}
 use Rattle.serving.specs.Parents.{noParent, NoParents, Ways, EnteredBy}
-use Rattle.serving.specs.Seats.{foundAt, seatIn, isAboveSeat, StationEnteredBy, NoneServed, ServedBy}
+use Rattle.serving.specs.Seats.{foundAt, seatIn, isAboveSeat, TerminalEnteredBy, NoneServed, ServedBy}
 
 -- ---- the tables before
 
@@ -62,7 +62,7 @@ none-before f v before here j l = go (ℕ-discrete j v)
 module _ (parents : List ℕ) (ways : Ways parents) (marks landings : List ℕ) (i : ℕ) (before after : List ℕ) where
   -- a terminal that sits is entered above its seat
   pub seated : (seat set : ℕ) → some seat ≡ seatIn marks landings i → set ≡ single i → EnteredBy parents ways seat set before after
-      → StationEnteredBy parents ways marks landings i before after
+      → TerminalEnteredBy parents ways marks landings i before after
   seated seat set sits alone E = record {
     size = E .size;
     at = λ u l j.
@@ -71,7 +71,7 @@ module _ (parents : List ℕ) (ways : Ways parents) (marks landings : List ℕ) 
   }
 
   -- one that sits nowhere is entered nowhere
-  pub unseated : none ≡ seatIn marks landings i → after ≡ before → StationEnteredBy parents ways marks landings i before after
+  pub unseated : none ≡ seatIn marks landings i → after ≡ before → TerminalEnteredBy parents ways marks landings i before after
   unseated sits same = record {
     size = ap length same;
     at = λ u l j.
@@ -97,7 +97,7 @@ module _ (parents : List ℕ) (ways : Ways parents) (marks landings : List ℕ) 
 
   -- one terminal more
   pub serving-next : (i : ℕ) (before after : List ℕ) → ServedBy parents ways marks landings i before
-      → StationEnteredBy parents ways marks landings i before after → ServedBy parents ways marks landings (i + 1) after
+      → TerminalEnteredBy parents ways marks landings i before after → ServedBy parents ways marks landings (i + 1) after
   serving-next i before after S E = record {
     at = λ u l j.
         let on : u < length before = subst (λ (n : ℕ). u < n) (E .size) l in

@@ -8,16 +8,16 @@ use lib.ListN.{length, getD, set, length-set}
 use denote.Ref.{now}
 use borrow.Author.Needs.{needs}
 use Rattle.serving.specs.Parents.{Ways, EnteredBy}
-use Rattle.serving.specs.laws.Climbs.{Upward, upward-start, upward-next, upward-top, upward-ends}
+use Rattle.serving.specs.laws.WaysUp.{Upward, upward-start, upward-next, upward-top, upward-ends}
 use Rattle.serving.proofs.parents.enter_above.Statement.{statement}
 use Rattle.serving.proofs.parents.enter_above.Tie as tie
 
 abbrev Inv-loop : tie.InvT-loop
-Inv-loop parents seat station served₀ v₀ steps₀ served v steps =
-    (v < length parents) × (length served ≡ length served₀) × ((ways : Ways parents) → Upward parents ways seat (station .0) served₀ served v steps)
+Inv-loop parents seat terminal served₀ v₀ steps₀ served v steps =
+    (v < length parents) × (length served ≡ length served₀) × ((ways : Ways parents) → Upward parents ways seat (terminal .0) served₀ served v steps)
 
 abbrev μ-loop : tie.MeasureT-loop
-μ-loop parents seat station served₀ v₀ steps₀ served v steps = length parents - steps
+μ-loop parents seat terminal served₀ v₀ steps₀ served v steps = length parents - steps
 
 loop-holds : tie.Need-loop-holds Inv-loop μ-loop
 loop-holds c = (c .before .before .pre .1, refl, λ ways. upward-start _ ways _ _ _)
@@ -50,7 +50,7 @@ returns : tie.Need-returns Inv-loop μ-loop
 returns c ways =
     let l = c .before .before .before .before .before .loop in
     let a = c .before .before .before .before .before .before .before .before .args in
-    subst (λ (x : ℕ). EnteredBy (now (a .parents)) ways (a .seat) (a .station .0) (now (a .served)) (set (l .served) (l .v) x)) (sym (c .before .before .union .ensures))
+    subst (λ (x : ℕ). EnteredBy (now (a .parents)) ways (a .seat) (a .terminal .0) (now (a .served)) (set (l .served) (l .v) x)) (sym (c .before .before .union .ensures))
     (upward-top _ ways _ _ _ (l .served) (l .v) (l .inv .1) (l .inv .0) (c .before .before .before .before .before .before .before .before .pre .2) (l .inv .2 ways) (c .if1 .taken))
 
 cast-v : tie.Need-cast-v Inv-loop μ-loop
@@ -70,7 +70,7 @@ loop-again c =
       pre .0 .falls (l .v) (l .inv .0) (c .if1 .left) .0,
       length-set (l .served) (l .v) (c .before .before .union .result .0) ∙ l .inv .1,
       λ ways.
-          subst (λ (x : ℕ). Upward (now (a .parents)) ways (a .seat) (a .station .0) (now (a .served)) (set (l .served) (l .v) x) (getD (now (a .parents)) (l .v) 0) (l .steps + 1)) (sym (c .before .before .union .ensures))
+          subst (λ (x : ℕ). Upward (now (a .parents)) ways (a .seat) (a .terminal .0) (now (a .served)) (set (l .served) (l .v) x) (getD (now (a .parents)) (l .v) 0) (l .steps + 1)) (sym (c .before .before .union .ensures))
           (upward-next _ ways _ _ _ (l .served) (l .v) (l .inv .1) (l .inv .0) (pre .2) (l .inv .2 ways) (c .if1 .left)),
     )
 

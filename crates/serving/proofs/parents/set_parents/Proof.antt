@@ -12,7 +12,7 @@ use Rattle.lists.specs.Listed.{listed}
 use Rattle.lists.specs.Numbers.{value-in}
 use Rattle.planfile.specs.Format.{listedArc, arcsTo}
 use Rattle.serving.specs.Parents.{Parents}
-use Rattle.serving.specs.laws.Climbs.{parents-none, parents-listed}
+use Rattle.serving.specs.laws.WaysUp.{parents-none, parents-listed}
 use Rattle.serving.proofs.parents.set_parents.Statement.{statement}
 use Rattle.serving.proofs.parents.set_parents.Tie as tie
 

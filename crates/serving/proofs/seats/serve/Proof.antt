@@ -23,8 +23,8 @@ abbrev μ-loop : tie.MeasureT-loop
 loop-holds : tie.Need-loop-holds Inv-loop μ-loop
 loop-holds c = (omega arith, refl, λ ways. serving-start _ ways _ _ _ (c .before .before .before .before .pre .5))
 
-enter-station-requires : tie.Need-enter-station-requires Inv-loop μ-loop
-enter-station-requires c κs =
+enter-terminal-requires : tie.Need-enter-terminal-requires Inv-loop μ-loop
+enter-terminal-requires c κs =
     let pre = c .before .before .before .before .before .before .before .pre in
     (pre .0, omega (arith, c .before .loop-test .taken, pre .1), pre .2, pre .3, omega (arith, pre .4, c .before .before .loop .inv .1))
 
@@ -37,7 +37,7 @@ loop-less c = search needs
 loop-again : tie.Need-loop-again Inv-loop μ-loop
 loop-again c =
     let l = c .before .before .before .before .before .loop in
-    let e = c .before .before .enter-station in
+    let e = c .before .before .enter-terminal in
     (search needs, e .ensures (c .before .before .before .before .before .before .before .before .before .before .pre .0) .size ∙ l .inv .1, λ ways. serving-next _ ways _ _ _ _ _ (l .inv .2 ways) (e .ensures ways))
 
 same-length : tie.Need-same-length Inv-loop μ-loop
@@ -50,4 +50,4 @@ returns c ways =
     subst (λ (k : ℕ). ServedBy (now (a .parents)) ways (now (a .marks)) (now (a .landings)) k (c .before .loop .served)) e (c .before .loop .inv .2 ways)
 
 pub serve-spec : {M : Type 1} → statement M
-serve-spec = tie.close (tie.spec Inv-loop μ-loop loop-holds enter-station-requires add-i loop-less loop-again same-length returns)
+serve-spec = tie.close (tie.spec Inv-loop μ-loop loop-holds enter-terminal-requires add-i loop-less loop-again same-length returns)

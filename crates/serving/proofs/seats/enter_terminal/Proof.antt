@@ -1,11 +1,11 @@
--- `serving::seats::enter_station` meets its contract.
+-- `serving::seats::enter_terminal` meets its contract.
 -- Assumes nothing.
 use mathlib.Core.Path.{refl}
 use native.Mathlib.Omega.{arith}
 use borrow.Author.Needs.{needs}
 use Rattle.serving.specs.laws.Serving.{found-some, found-nothing, seated, unseated}
-use Rattle.serving.proofs.seats.enter_station.Statement.{statement}
-use Rattle.serving.proofs.seats.enter_station.Tie as tie
+use Rattle.serving.proofs.seats.enter_terminal.Statement.{statement}
+use Rattle.serving.proofs.seats.enter_terminal.Tie as tie
 
 seat-of-requires : tie.Need-seat-of-requires
 seat-of-requires c κs = search needs
@@ -30,5 +30,5 @@ returns c ways =
 returns-2 : tie.Need-returns-2
 returns-2 c ways = unseated _ ways _ _ _ _ _ (found-nothing (c .if1 .left) (c .before .seat-of .ensures)) refl
 
-pub enter-station-spec : {M : Type 1} → statement M
-enter-station-spec = tie.close (tie.spec seat-of-requires single-requires enter-above-requires same-length returns returns-2)
+pub enter-terminal-spec : {M : Type 1} → statement M
+enter-terminal-spec = tie.close (tie.spec seat-of-requires single-requires enter-above-requires same-length returns returns-2)
