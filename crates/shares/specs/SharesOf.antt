@@ -6,7 +6,6 @@ use Prim.Native.Nat.{ℕ}
 use mathlib.Core.List.{List}
 use lib.ListN.{length}
 use Rattle.records.specs.declared.record.Record.{Record}
-use Rattle.lent_tables.specs.SheetTables.{SheetTables}
 use Rattle.lent_tables.specs.Lengths.{shareLengths}
 use Rattle.lent_tables.specs.declared.FurtherLengths.{FurtherLengths}
 use Rattle.record_tables.specs.Loaded.{loaded}

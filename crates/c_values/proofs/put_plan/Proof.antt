@@ -21,7 +21,10 @@ same-length : tie.Need-same-length
 same-length c = search needs
 
 returns : tie.Need-returns
-returns c = c .before .before .put3 .ensures ∙ ap (λ (l : List ℕ). set l 2 (c .before .before .before .before .before .before .before .before .before .before .before .before .before .args .arcs)) (c .before .before .before .before .before .before .put2 .ensures ∙ ap (λ (l : List ℕ). set l 1 (c .before .before .before .before .before .before .before .before .before .before .before .before .before .args .total)) (c .before .before .before .before .before .before .before .before .before .before .put .ensures))
+returns c =
+    let a = c .before .before .before .before .before .before .before .before .before .before .before .before .before .args in
+    c .before .before .put3 .ensures
+    ∙ ap (λ (l : List ℕ). set l 2 (a .arcs)) (c .before .before .before .before .before .before .put2 .ensures ∙ ap (λ (l : List ℕ). set l 1 (a .total)) (c .before .before .before .before .before .before .before .before .before .before .put .ensures))
 
 pub put-plan-spec : {M : Type 1} → statement M
 put-plan-spec = tie.close (tie.spec put-requires put-requires-2 put-requires-3 same-length returns)

@@ -5,7 +5,7 @@ use Prim.Native.Nat.{ℕ, _-_, _≤_, _<_}
 use mathlib.Core.Path.{_≡_, refl, sym, ap, ap₂, _∙_, subst}
 use mathlib.Core.Bool.{Bool, true, false, _&&_, _||_}
 use mathlib.Core.Option.{Option, none, some}
-use mathlib.Core.List.{List, map}
+use mathlib.Core.List.{List}
 use native.Mathlib.Omega.{arith}
 use lib.Dec.{T, eqb}
 use lib.ListN.{length, getD}
@@ -16,7 +16,6 @@ use Rattle.lists.specs.Listed.{listed}
 use Rattle.lists.specs.Find.{first, first-same}
 use Rattle.lists.specs.Sums.{sumTo, passing-most, passing-one}
 use Rattle.subset.specs.Sets.{has}
-use Rattle.landing_entries.specs.Entries.{terminalsIn}
 use Rattle.lent_tables.specs.SheetTables.{SheetTables}
 use Rattle.graph.specs.Graph.{Graph}
 use Rattle.graph.specs.Paths.{isReached}
@@ -27,11 +26,10 @@ use Rattle.graph.specs.laws.Holding.{held-reached, reached-held}
 use Rattle.graph.specs.laws.SubtreeParts.{arc-of, start-reached}
 use Rattle.planfile.specs.Format.{arcsTo}
 use Rattle.marking.specs.Links.{Within}
-use Rattle.reaching.specs.Marks.{marksOf}
 use Rattle.reaching.specs.laws.MarkLaws.{mark-at}
 use Rattle.plan_shares.specs.Shares.{seat, isBelow}
 use Rattle.plan_shares.specs.laws.Above.{top-alone, above-end, fewer-above}
-use Rattle.serving.specs.Parents.{noParent, ArcBetween, Parents, Ways}
+use Rattle.serving.specs.Parents.{noParent, Parents, Ways}
 use Rattle.serving.specs.Seats.{maySeat, seatIn, isAboveSeat}
 use Rattle.file_shares.specs.PlanReady.{PlanReady}
 

@@ -1,20 +1,17 @@
 -- A file, with shares, against the tables that hold a sheet: a refusal of the plan reader stays and writes no share; an accepted file lists a plan
 -- that the tables have, and its shares are those of the plan.
 -- Assumes nothing.
-use Prim.Native.Nat.{ℕ, _≤_, _<_}
+use Prim.Native.Nat.{ℕ, _<_}
 use mathlib.Core.Path.{_≡_, refl, sym, ap, ap₂, _∙_, subst}
-use mathlib.Core.Option.{Option, none}
+use mathlib.Core.Option.{Option}
 use mathlib.Core.List.{List, _++_}
 use native.Mathlib.Omega.{arith}
 use lib.Dec.{T}
-use lib.ListN.{length, getD, take, drop, length-take}
+use lib.ListN.{length, take, drop, length-take}
 use lib.Seq.{take-at}
-use Rattle.limits.specs.Limits.{noCost}
 use Rattle.lists.specs.Listed.{listed}
 use Rattle.lists.specs.Numbers.{length-values}
-use Rattle.lists.specs.Sums.{sumBy}
-use Rattle.lists.specs.Over.{over}
-use Rattle.answer.specs.Stated.{Stated, plan, shared, refused, familyOf, statedRefusal}
+use Rattle.answer.specs.Stated.{plan, shared, statedRefusal}
 use Rattle.answer.specs.laws.OneToOne.{refusal-stated}
 use Rattle.answer.specs.declared.PlanFault.{PlanFault}
 use Rattle.answer.specs.declared.Refusal.{Refusal}
@@ -26,7 +23,6 @@ use Rattle.graph.specs.Subtrees.{Subtree}
 use Rattle.graph.specs.laws.SubtreeParts.{arc-of, total-weights}
 use Rattle.network.specs.HeldSheet.{HeldSheet}
 use Rattle.planfile.specs.Format.{fileSize, rootIn, arcsTo, arcsIn}
-use Rattle.file_tests.specs.FileFaults.{fileFault}
 use Rattle.file_tests.specs.laws.Faults.{file-passes}
 use Rattle.reaching.specs.Marks.{marksOf}
 use Rattle.reaching.specs.laws.MarkLaws.{marks-size}

@@ -1,18 +1,18 @@
 -- The parts of a price and what nobody pays make the price; so the shares of a plan and the unassigned sum make the total of its legs' prices.
 -- Assumes nothing.
-use Prim.Native.Nat.{ℕ, zero, suc, _+_, _*_, _/_, _%_, _≤_, _<_, min}
+use Prim.Native.Nat.{ℕ, zero, suc, _+_, _*_, _/_, _%_, _≤_, min}
 use mathlib.Core.Path.{_≡_, refl, ap, _∙_}
 use mathlib.Core.Logic.{_≢_}
 use mathlib.Core.Bool.{Bool, cond}
 use mathlib.Core.List.{List, [], _∷_}
 use native.Mathlib.Omega.{arith}
 use native.Mathlib.Nat.{div-add-mod', mod-lt, mul-comm}
-use lib.Dec.{T, eqb, ltb, ltb→lt, nltb→le}
+use lib.Dec.{ltb, ltb→lt, nltb→le}
 use Rattle.lists.specs.Tests.{by-fact, by-eq}
 use Rattle.lists.specs.Count.{bit}
 use Rattle.lists.specs.Sums.{sumBy, sumTo, sumTo-sumBy}
 use Rattle.graph.specs.Graph.{Graph}
-use Rattle.plan_shares.specs.Shares.{payersTo, partOf, unpaidOf, sitsBelow, payersAt, partAt, unpaidAt, shareOf, unassigned}
+use Rattle.plan_shares.specs.Shares.{payersTo, partOf, unpaidOf, sitsBelow, partAt, unpaidAt, shareOf, unassigned}
 
 -- ---- one price
 

@@ -1,7 +1,5 @@
 -- `serving::seats::may_seat` meets its contract.
 -- Assumes nothing.
-use mathlib.Core.Bool.{Bool, _&&_}
-use mathlib.Core.Path.{sym, ap, _∙_}
 use borrow.Author.Tests.{eq-eqb, ne-eqb}
 use borrow.Author.Needs.{needs}
 use Rattle.serving.proofs.seats.may_seat.Statement.{statement}
