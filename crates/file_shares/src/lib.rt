@@ -15,7 +15,7 @@ ghost use Rattle.graph.specs.Graph.{Graph};
 ghost use Rattle.graph.specs.HeldGraph.{graphIn};
 ghost use Rattle.lent_tables.specs.Lengths.{shareLengths};
 ghost use Rattle.network.specs.HeldSheet.{HeldSheet};
-ghost use Rattle.file_reader.specs.FileAnswer.{answerTo, marksAfter};
+ghost use Rattle.file_reader.specs.FileAnswer.{marksAfter};
 ghost use Rattle.file_shares.specs.Sharing.{sharingTo, sharesAfter};
 ghost use Rattle.file_shares.specs.PlanReady.{PlanReady, SomePlan, Divided};
 
