@@ -1,5 +1,7 @@
 // What is sent back: an answer of the engine or the plan reader, an answer of the enquirer, an answer with shares, and the refusals that they hold.
 // A refusal says first whether the sheet, the tables, the search or the plan file caused it.
+#![tactic(auto)]
+
 ghost use Rattle.std.specs.Prelude.{◌≡◌};
 ghost use Rattle.answer.specs.Stated.{refused, of_sheet, of_tables, of_search, of_plan_file, family_of, stated_refusal};
 ghost use Rattle.answer.specs.declared.Refusal.TheVariants.{Sheet, Tables, Search, PlanFile};

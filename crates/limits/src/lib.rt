@@ -1,6 +1,7 @@
 // The numbers of documents 01 and 02 that the code compares with: the limits of a sheet, the cost "none", the marks of the formats and the
 // refusal numbers. specs/Limits.antt, Marks.antt and Refusals.antt have the same numbers for the definitions; every proof that
 // meets one of them on both sides fails where the two differ.
+#![tactic(auto)]
 
 // The fewest and the most sites and stations, and the most legs of a sheet.
 pub const MIN_NODES: u16 = 1;

@@ -21,6 +21,7 @@ module _ {A : Type 0} where
       (λ (s : T (any_of p l)). let r = any_member p l s in (r.0, Memᴰ.tail r.1, r.2)) (or_cases (p y) (any_of p l) t)
 
   pub member_any : {x : A} (p : A → Bool) (l : List A) → Memᴰ x l → T (p x) → T (any_of p l)
+  member_any p [] x3 t = elim x3 [ ]
   member_any p (y ∷ l) (Memᴰ.head s) t = or_left (p y) (any_of p l) (subst (λ (z : A). T (p z)) s t)
   member_any p (y ∷ l) (Memᴰ.tail m) t = or_right (p y) (any_of p l) (member_any p l m t)
 
@@ -28,6 +29,7 @@ module _ {A : Type 0} where
 
   -- a member of them is a member of the list that passes, and the other way round
   pub member_select : {x : A} (p : A → Bool) (l : List A) → Memᴰ x l → T (p x) → Memᴰ x (select p l)
+  member_select {x = x} p [] x3 t = elim x3 [ ]
   member_select {x} p (y ∷ l) (Memᴰ.head s) t =
       by_fact (p y) (λ b. Memᴰ x (keep b y (select p l))) (λ _. Memᴰ.head s) (λ n. absurd (not_both (p y) (subst (λ (z : A). T (p z)) s t) n))
   member_select {x} p (y ∷ l) (Memᴰ.tail m) t =
@@ -35,6 +37,7 @@ module _ {A : Type 0} where
       by_fact (p y) (λ b. Memᴰ x (keep b y (select p l))) (λ _. Memᴰ.tail later) (λ _. later)
 
   pub select_member : {x : A} (p : A → Bool) (l : List A) → Memᴰ x (select p l) → Memᴰ x l × T (p x)
+  select_member {x = x} p [] m = elim m [ ]
   select_member {x} p (y ∷ l) m = go (p y) refl (λ i. select_member p l i) m
     where
       go : (b : Bool) → p y ≡ b → (Memᴰ x (select p l) → Memᴰ x l × T (p x)) → Memᴰ x (keep b y (select p l)) → Memᴰ x (y ∷ l) × T (p x)
@@ -46,6 +49,7 @@ module _ {A : Type 0} where
 
   -- a number is among the values exactly where it is the value at a member
   pub value_listed : {x : A} (f : A → ℕ) (l : List A) → Memᴰ x l → T (listed (f x) (map f l))
+  value_listed {x = x} f [] x'' = elim x'' [ ]
   value_listed {x} f (y ∷ l) (Memᴰ.head s) = listed_same (f x) (f y) (map f l) (ap f s)
   value_listed {x} f (y ∷ l) (Memᴰ.tail m) = listed_tail (f x) (f y) (map f l) (value_listed f l m)
 

@@ -1,4 +1,6 @@
 // Sets of stations (document 01, "Subsets"): a set is a number below 2^k, and station i is worth 2^i.
+#![tactic(auto)]
+
 ghost use Rattle.std.specs.Prelude.{◌≡◌, ◌^◌, ◌≤◌, ◌<◌};
 ghost use Rattle.std.specs.Int.Count.{ones};
 ghost use Rattle.limits.specs.Limits.{max_terminals};
