@@ -1,5 +1,7 @@
 // An entry of the landing table: the stations that can be heard at its site are its lowest ten bits, and the bit worth 1,024 says that the site
 // is a sender. Nothing else looks into an entry.
+#![tactic(auto)]
+
 pub mod flags;
 
 ghost use Rattle.std.specs.Prelude.{◌≡◌};

@@ -1,5 +1,7 @@
 // The lent tables: the lengths that are needed of them, and whether they have them. specs/SheetTables.antt has the tables that hold a sheet, as a
 // record of lists, and specs/IndexTables.antt those that hold the index of its legs; a function is lent each table by itself.
+#![tactic(auto)]
+
 ghost use Rattle.std.specs.Prelude.{◌≡◌, ◌≤◌};
 ghost use Rattle.limits.specs.Limits.{max_terminals};
 ghost use Rattle.lent_tables.specs.Lengths.{is_enough, further_pass, lengths_pass, marks_only, share_lengths, search_lengths};

@@ -1,4 +1,6 @@
 // The number fields of sheets and plan files: unsigned numbers, highest byte first, read from a byte string and put into one.
+#![tactic(auto)]
+
 ghost use Rattle.std.specs.Prelude.{◌≡◌, ◌+◌, ◌<◌, length};
 ghost use Rattle.std.proofs.lemmas.List.Edits.{sets};
 ghost use Rattle.number_fields.specs.Fields.{number16, number32, bytes16, bytes32};

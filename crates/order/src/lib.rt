@@ -1,4 +1,6 @@
 // The subsets of ten stations in their order (document 01, "Subsets"): by size, then by number.
+#![tactic(auto)]
+
 ghost use Rattle.std.specs.Prelude.{◌≡◌, map, length};
 ghost use Rattle.limits.specs.Limits.{max_subsets};
 ghost use Rattle.lists.specs.Numbers.{numbers};

@@ -1,0 +1,16 @@
+-- `number_fields::u16_at` meets its contract. A byte is below 256, so two of them make a number of 16 bits.
+-- Assumes nothing.
+use Rattle.std.proofs.Common.{arith, ◌+◌}
+use Rattle.number_fields.proofs.u16_at.Goals as goal
+
+pub overflow_cast-result : goal.overflow_cast-result
+overflow_cast-result c = omega (arith, c.type_inv.bytes c.args.at)
+
+pub overflow_mul-result : goal.overflow_mul-result
+overflow_mul-result c = omega (arith, c.type_inv.bytes c.args.at)
+
+pub overflow_cast-result-2 : goal.overflow_cast-result-2
+overflow_cast-result-2 c = omega (arith, c.type_inv.bytes (c.args.at + 1))
+
+pub overflow_add-result-2 : goal.overflow_add-result-2
+overflow_add-result-2 c = omega (arith, c.type_inv.bytes (c.args.at + 1), c.type_inv.bytes c.args.at)
