@@ -1,9 +1,10 @@
 -- `copy_order` meets its contract.
 -- Assumes nothing.
 use Rattle.std.proofs.Common.{ℕ, ◌-◌, ap, ◌∙◌, List, map, arith, get_or, rules}
+use lib.Count.{ones_in}
 use Rattle.lists.specs.Numbers.{numbers}
 use Rattle.lists.specs.Values.{no_values, next_value, all_values}
-use Rattle.order.specs.Order.{in_order}
+use Rattle.order.specs.Order.{of_size, order_by, in_order}
 use Rattle.order.specs.laws.Rule.{computed}
 use Rattle.order.proofs.copy_order.Goals as goal
 
@@ -14,6 +15,7 @@ pub bounds-sets-position : goal.bounds-sets-position
 bounds-sets-position c = omega (arith, c.loop-position-test.true, c.loop-position.invariant.1, c.loop-position.invariant.2.same_length)
 
 pub loop-position-preserved : goal.loop-position-preserved
+unfolding in_order order_by of_size ones_in
 loop-position-preserved c = (omega (arith, c.loop-position-test.true), c.loop-position.invariant.1, next_value (omega (arith, c.loop-position-test.true, c.loop-position.invariant.1, c.loop-position.invariant.2.same_length)) (ap (λ (l : List ℕ). get_or l c.loop-position.position 0) computed) c.loop-position.invariant.2)
 
 pub shape_of-sets : goal.shape_of-sets
