@@ -1,4 +1,6 @@
 // "None" while the table is filled, and what becomes of it in the end.
+#![tactic(auto)]
+
 ghost use Rattle.std.specs.Prelude.{◌≡◌, map, length};
 ghost use Rattle.lists.specs.Numbers.{numbers};
 ghost use Rattle.working_none.specs.laws.WorkingNone.{finished};

@@ -18,6 +18,9 @@ use Rattle.records.specs.declared.record.Record.TheVariants.{Sender}
 
 -- a record that names v is `SR` with v
 names_sender : (v : ℕ) (x : Record) → T (names v x) → Sender v ≡ x
+names_sender v (Rattle.records.specs.declared.record.Record.TheVariants.Landing _ _) t = elim t [ ]
+names_sender v (Rattle.records.specs.declared.record.Record.TheVariants.BothWays _ _ _) t = elim t [ ]
+names_sender v (Rattle.records.specs.declared.record.Record.TheVariants.OneWay _ _ _) t = elim t [ ]
 names_sender v (Sender node) t = ap Sender (sym (eqb→eq node v t))
 
 -- a site is named exactly where the records have its `SR`
@@ -31,6 +34,9 @@ member_named records v m = member_any (names v) records m (eqb_refl v)
 
 -- a record that is `SR` is one with a site
 licence_sender : (x : Record) → T (is_licence x) → (v : ℕ) × (Sender v ≡ x)
+licence_sender (Rattle.records.specs.declared.record.Record.TheVariants.Landing _ _) t = elim t [ ]
+licence_sender (Rattle.records.specs.declared.record.Record.TheVariants.BothWays _ _ _) t = elim t [ ]
+licence_sender (Rattle.records.specs.declared.record.Record.TheVariants.OneWay _ _ _) t = elim t [ ]
 licence_sender (Sender node) t = (node, refl)
 
 -- an `SR` names a site of the sheet

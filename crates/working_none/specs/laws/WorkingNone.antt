@@ -20,3 +20,11 @@ finished_below x l = ap (λ (b : Bool). cond b no_cost x) (ne_eqb x working_none
 pub finished_by : {Is Not : Type 0} {x y : ℕ} → (Is → x ≡ working_none) → (Not → x ≢ working_none) → (Is × (y ≡ no_cost)) ⊎ (Not × (y ≡ x)) → y ≡ finished x
 finished_by {Is} {Not} {x} is not (inl (t, e)) = e ∙ sym (ap (λ (b : Bool). cond b no_cost x) (eq-eqb x working_none (is t)))
 finished_by {Is} {Not} {x} is not (inr (t, e)) = e ∙ sym (ap (λ (b : Bool). cond b no_cost x) (ne_eqb x working_none (not t)))
+
+
+-- the same of each outcome of the comparison
+pub set_finished : {x y : ℕ} → x ≡ working_none → y ≡ no_cost → y ≡ finished x
+set_finished {x} is e = e ∙ sym (ap (λ (b : Bool). cond b no_cost x) (eq-eqb x working_none is))
+
+pub kept_finished : {x y : ℕ} → x ≢ working_none → y ≡ x → y ≡ finished x
+kept_finished {x} not e = e ∙ sym (ap (λ (b : Bool). cond b no_cost x) (ne_eqb x working_none not))
