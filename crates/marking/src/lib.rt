@@ -1,5 +1,7 @@
 // A listed leg marks its end where its start is marked: with this step alone every site that a path of listed legs leads to is marked, and no
 // other one.
+#![tactic(auto)]
+
 ghost use Rattle.std.specs.Prelude.{◌<◌, length, get_or};
 ghost use Rattle.marking.specs.Marking.{ArcMarks};
 

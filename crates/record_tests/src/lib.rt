@@ -1,5 +1,7 @@
 // What a record is found to be from the bytes after its mark: a record that passes its tests, the end of the sheet, or the refusal. Of the
 // reading state each function takes what its record is tested against: `at`, the place of the mark; `n` sites, `k` stations; the legs so far.
+#![tactic(auto)]
+
 ghost use Rattle.std.specs.Prelude.{◌≡◌, ◌+◌, ◌≤◌, ◌<◌, ◌^◌, length};
 ghost use Rattle.limits.specs.Limits.{max_terminals, max_arcs};
 ghost use Rattle.records.specs.Records.{link_fields, landing_fields, sender_fields};

@@ -1,0 +1,17 @@
+-- `record_tests::landing` meets its contract. Each return has the tests that led to it, on the fields that landing_fields read.
+-- Assumes nothing.
+use Rattle.std.proofs.Common.{le-leb}
+use borrow.Author.Tests.{lt-leb}
+use Rattle.record_tests.proofs.landing.Goals as goal
+
+pub returns-then-k-terminal : goal.returns-then-k-terminal
+returns-then-k-terminal c = simp (← c.landing_fields-read.ensures, c.in-Fields.is, le-leb _ _ c.if-k-terminal.true)
+
+pub returns-then-n-node : goal.returns-then-n-node
+returns-then-n-node c = simp (← c.landing_fields-read.ensures, c.in-Fields.is, le-leb _ _ c.if-n-node.true, lt-leb _ _ c.if-k-terminal.false)
+
+pub returns-in-Short : goal.returns-in-Short
+returns-in-Short c = simp (← c.landing_fields-read.ensures, c.in-Short.is)
+
+pub returns-else-n-node : goal.returns-else-n-node
+returns-else-n-node c = simp (← c.landing_fields-read.ensures, c.in-Fields.is, lt-leb _ _ c.if-n-node.false, lt-leb _ _ c.if-k-terminal.false)
