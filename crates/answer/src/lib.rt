@@ -7,7 +7,7 @@ ghost use Rattle.answer.specs.Stated.{refused, of_sheet, of_tables, of_search, o
 ghost use Rattle.answer.specs.declared.Refusal.TheVariants.{Sheet, Tables, Search, PlanFile};
 
 // The sheet's refusals, also where the enquirer gives them. Each has a place of its own.
-#[derive(Drop)]
+#[derive(Clone, Copy)]
 pub enum SheetFault {
     ShortSheet(usize),
     StrangeMark(usize),
@@ -22,20 +22,20 @@ pub enum SheetFault {
 }
 
 // The tables' refusals. Their place is 0.
-#[derive(Drop)]
+#[derive(Clone, Copy)]
 pub enum TableFault {
     ShortTables,
     ShortBuffer,
 }
 
 // The search's refusals. Their place is 0.
-#[derive(Drop)]
+#[derive(Clone, Copy)]
 pub enum SearchFault {
     NoPlan,
 }
 
 // The plan file's refusals. Where a case holds a place, it counts in the plan file; of the others it is 0.
-#[derive(Drop)]
+#[derive(Clone, Copy)]
 pub enum PlanFault {
     CutPlan,
     BadPlan(usize),
@@ -47,7 +47,7 @@ pub enum PlanFault {
 }
 
 // A refusal, by its cause.
-#[derive(Drop)]
+#[derive(Clone, Copy)]
 pub enum Refusal {
     Sheet(SheetFault),
     Tables(TableFault),
@@ -57,14 +57,14 @@ pub enum Refusal {
 
 // The answer of the engine and of the plan reader: a plan, or an accepted file, with the root, the total and the leg count that
 // stand in the file; or a refusal.
-#[derive(Drop)]
+#[derive(Clone, Copy)]
 pub enum Answer {
     Plan { root: u16, total: u64, arcs: u16 },
     Refused(Refusal),
 }
 
 // The answer of the enquirer: a cell as it stands in the table, a best sender, no sender ("none"), or a refusal.
-#[derive(Drop)]
+#[derive(Clone, Copy)]
 pub enum Enquiry {
     Cell(u64),
     Sender(u16),
@@ -73,7 +73,7 @@ pub enum Enquiry {
 }
 
 // The answer to a request for shares: the acceptance of the plan file, with the sum that no station pays; or a refusal.
-#[derive(Drop)]
+#[derive(Clone, Copy)]
 pub enum Sharing {
     Shared {
         root: u16,
@@ -85,7 +85,7 @@ pub enum Sharing {
 }
 
 // What a refusal returns: its number and its place.
-#[derive(Drop)]
+#[derive(Clone, Copy)]
 pub struct Code {
     pub number: u8,
     pub place: usize,

@@ -1,2 +1,3 @@
 // The engine: the planning entry point, from a sheet to the plan file.
+#![tactic(auto)]
 pub mod planning;

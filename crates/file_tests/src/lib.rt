@@ -1,4 +1,5 @@
 // The tests of a plan file by itself, for a sheet with n sites and so many legs: refusals 14, 15 and 16.
+#![tactic(auto)]
 ghost use Rattle.std.specs.Prelude.{◌≡◌, ◌+◌, ◌≤◌, ◌<◌, length};
 ghost use Rattle.planfile.specs.Format.{file_size, count_in};
 ghost use Rattle.file_tests.specs.FileFaults.{arc_fault, arcs_fault};
@@ -9,14 +10,14 @@ use number_fields::u16_at;
 use planfile::fields::{HEAD_SIZE, arc_at, count_in, file_size, mark_at, root_in, total_in};
 
 // A file's root, total and leg count, or its fault.
-#[derive(Drop)]
+#[derive(Clone, Copy)]
 pub enum Opened {
     Fields { root: u16, total: u32, count: u16 },
     Fault(PlanFault),
 }
 
 // What a test gives.
-#[derive(Drop)]
+#[derive(Clone, Copy)]
 pub enum Tested {
     Passed,
     Fault(PlanFault),

@@ -1,4 +1,5 @@
 // Four cells of one site at a time, and four columns of the table, those of four sets, side by side: a table with four cells for each site.
+#![tactic(auto)]
 ghost use Rattle.std.specs.Prelude.{◌≡◌, ℕ, ◌+◌, ◌*◌, ◌<◌, ◌≤◌, min, ltb, length};
 ghost use Rattle.limits.specs.Limits.{max_subsets};
 ghost use Rattle.lanes.specs.laws.Four.{nth, nth_number, signed_limit, FourSmall, four_at, four_of, less_four, four_from};
@@ -8,7 +9,7 @@ ghost use Rattle.lanes.specs.laws.Columns.{ColumnsTaken, ColumnsGiven};
 use limits::{Cost, SignedCost};
 
 // The cells of one site, one for each of four sets.
-#[derive(Drop)]
+#[derive(Clone, Copy)]
 pub struct Four {
     pub a: Cost,
     pub b: Cost,
@@ -17,7 +18,7 @@ pub struct Four {
 }
 
 // Four sets, or four sites.
-#[derive(Drop)]
+#[derive(Clone, Copy)]
 pub struct FourNumbers {
     pub a: usize,
     pub b: usize,

@@ -1,4 +1,5 @@
 // The tests of one step of the layout at a site v with a set w: whether nothing is added, and which leg fits.
+#![tactic(auto)]
 ghost use Rattle.std.specs.Prelude.{◌≡◌, false, ◌+◌, ◌<◌, ◌≤◌, length, get_or};
 ghost use Rattle.lists.specs.Find.{first};
 ghost use Rattle.lent_tables.specs.SheetTables.{arcs_alone};
@@ -14,7 +15,7 @@ use subset::Subset;
 const BLOCK: usize = 64;
 
 // What a search finds: a leg or a part, by its number.
-#[derive(Drop)]
+#[derive(Clone, Copy)]
 pub enum Found {
     At(u16),
     Nothing,

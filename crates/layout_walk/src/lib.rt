@@ -1,5 +1,6 @@
 // "the lowest-numbered leg from v .. is added, and its end is followed with W", leg after leg, until nothing is added or no leg fits.
 // The tables hold a sheet with n sites, k stations and so many legs, and its finished cost table.
+#![tactic(auto)]
 ghost use Rattle.std.specs.Prelude.{length};
 ghost use Rattle.lent_tables.specs.SheetTables.{sheet_tables};
 ghost use Rattle.graph.specs.HeldGraph.{graph_in};
@@ -12,7 +13,7 @@ use subset::Subset;
 
 // Where a walk along fitting legs stops: the site, the place after the legs that were listed, and whether nothing is added at the site.
 // Where something is to be added there, no leg fits.
-#[derive(Drop)]
+#[derive(Clone, Copy)]
 pub struct Stop {
     pub node: u16,
     pub place: usize,

@@ -9,14 +9,14 @@ ghost use Rattle.lent_tables.specs.Lengths.{is_enough, further_pass, lengths_pas
 use subset::sets_of;
 
 // The length of a further table, one that is not loaded with the sheet: its number of entries, where it is needed.
-#[derive(Drop)]
+#[derive(Clone, Copy)]
 pub enum TableLength {
     Entries(usize),
     NotNeeded,
 }
 
 // The lengths of all further tables: leg numbers by end (one entry a leg), starting places (n + 1), cells (n times 2^k), marks (n) and shares (k).
-#[derive(Drop)]
+#[derive(Clone, Copy)]
 pub struct FurtherLengths {
     pub by_end: TableLength,
     pub places: TableLength,

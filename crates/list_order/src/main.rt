@@ -1,5 +1,6 @@
 // The program that writes the order of the subsets: for each position a line with the position and the subset that stands there, as it is worked out.
 // Its stored run has all 1,024 lines.
+#![tactic(auto)]
 use libc::STDOUT_FILENO;
 use limits::MAX_SUBSETS;
 

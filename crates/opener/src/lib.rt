@@ -1,5 +1,6 @@
 // The opening of a sheet, with which every entry point that takes one begins: the sheet is judged whole, then the lengths of all needed tables are
 // tested, and only then are the tables that hold a sheet written.
+#![tactic(auto)]
 ghost use Rattle.std.specs.Prelude.{◌≡◌};
 ghost use Rattle.lent_tables.specs.SheetTables.{sheet_tables};
 ghost use Rattle.lent_tables.specs.Lengths.{no_further};
@@ -11,7 +12,7 @@ use loader::load;
 use sheet::judge::{Judged, judge};
 
 // What an opening gives: the sites, stations and number of legs of the sheet that the tables now hold, or the refusal, 1 to 11.
-#[derive(Drop)]
+#[derive(Clone, Copy)]
 pub enum Loaded {
     Sheet { n: u16, k: u8, arcs: u16 },
     Refused(Refusal),

@@ -1,5 +1,6 @@
 // The desk program: it reads a sheet from standard input, one byte more than a sheet may have at most, and writes its plan or its refusal to
 // standard output. Where that fails it says so on standard error. Its stored run is sheet A.
+#![tactic(auto)]
 use desk::{MAX_BYTES, TEXT_BYTES, desk_text};
 use libc::{STDERR_FILENO, STDIN_FILENO, STDOUT_FILENO};
 

@@ -14,7 +14,7 @@ const MAX_TOTAL: u64 = u32::MAX as u64;
 const MAX_COUNT: usize = u16::MAX as usize;
 
 // What a writing gives: the length of the file that now stands in the buffer; a buffer too short; or a number that fits no field.
-#[derive(Drop)]
+#[derive(Clone, Copy)]
 pub enum Written {
     File(usize),
     ShortBuffer,

@@ -1,6 +1,7 @@
 // Which sites the listed legs of a file reach from a root, as marks: 1 for a site that a directed path leads to, else 0.
 // The legs are followed row by row from the root, each listed leg once; then passes over the listed legs mark what is left, until one marks no
 // site. What is marked is right whatever the rows are, and the last pass tells that nothing is left: the rows only save passes.
+#![tactic(auto)]
 mod passes;
 
 ghost use Rattle.std.specs.Prelude.{◌≡◌, ◌≤◌, ◌<◌, length, replicate};

@@ -1,5 +1,6 @@
 // A sheet from standard input, at most 262,144 bytes, loaded into tables for the limits of document 01.
 // What the loading gave goes to standard output.
+#![tactic(auto)]
 use libc::STDIN_FILENO;
 use opener::load_sheet;
 

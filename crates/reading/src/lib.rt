@@ -1,4 +1,5 @@
 // Reading goes record by record: the reading state goes in, and comes back one record further.
+#![tactic(auto)]
 ghost use Rattle.std.specs.Prelude.{◌≡◌, ◌+◌, ◌≤◌, ◌<◌, ◌^◌, length};
 ghost use Rattle.limits.specs.Limits.{max_terminals, max_arcs};
 ghost use Rattle.reading.specs.Steps.{found_in, after, step_of};
@@ -11,7 +12,7 @@ use records::record::Record;
 use subset::Subset;
 
 // Where the reading stands: the offset of the next record, sites and stations of the head, and the legs and heard stations so far.
-#[derive(Drop)]
+#[derive(Clone, Copy)]
 pub struct Reading {
     pub offset: usize,
     pub n: u16,
@@ -21,7 +22,7 @@ pub struct Reading {
 }
 
 // One record further: the state after it, the end, or the refusal.
-#[derive(Drop)]
+#[derive(Clone, Copy)]
 pub enum Step {
     Next(Reading),
     End,

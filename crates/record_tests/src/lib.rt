@@ -16,7 +16,7 @@ use records::record::Record;
 use subset::Subset;
 
 // What stands next: a record that passes its tests, the end, or the refusal.
-#[derive(Drop)]
+#[derive(Clone, Copy)]
 pub enum Found {
     Item(Record),
     End,

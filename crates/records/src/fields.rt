@@ -5,41 +5,41 @@ ghost use Rattle.records.specs.Records.{head_fields, link_in, link_fields, landi
 use number_fields::{u16_at, u32_at};
 
 // What `HD` says: sites, stations.
-#[derive(Drop)]
+#[derive(Clone, Copy)]
 pub enum HeadFields {
     Short,
     Fields { n: u16, k: u8 },
 }
 
 // What `LK` and `BK` say: from, to, price; and the same, where the bytes may be too short.
-#[derive(Drop)]
+#[derive(Clone, Copy)]
 pub struct Link {
     pub start: u16,
     pub end: u16,
     pub weight: u32,
 }
 
-#[derive(Drop)]
+#[derive(Clone, Copy)]
 pub enum LinkFields {
     Short,
     Fields { start: u16, end: u16, weight: u32 },
 }
 
 // What `ST` says: station, site; and the same, where the bytes may be too short.
-#[derive(Drop)]
+#[derive(Clone, Copy)]
 pub struct Landing {
     pub terminal: u8,
     pub node: u16,
 }
 
-#[derive(Drop)]
+#[derive(Clone, Copy)]
 pub enum LandingFields {
     Short,
     Fields { terminal: u8, node: u16 },
 }
 
 // What `SR` says, where the bytes may be too short: a site.
-#[derive(Drop)]
+#[derive(Clone, Copy)]
 pub enum SenderFields {
     Short,
     Fields { node: u16 },

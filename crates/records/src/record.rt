@@ -6,7 +6,7 @@ ghost use Rattle.records.specs.Landings.{heard_by, LandsOne};
 
 use subset::Subset;
 
-#[derive(Drop)]
+#[derive(Clone, Copy)]
 pub enum Record {
     // `LK`: one leg.
     OneWay { start: u16, end: u16, weight: u32 },

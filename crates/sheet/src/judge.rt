@@ -9,7 +9,7 @@ use answer::SheetFault;
 use reading::{Reading, Step};
 
 // A good sheet with its sites, stations and number of legs, or the first refusal.
-#[derive(Drop)]
+#[derive(Clone, Copy)]
 pub enum Judged {
     Good { n: u16, k: u8, arcs: u16 },
     Fault(SheetFault),

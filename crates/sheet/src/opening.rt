@@ -10,7 +10,7 @@ use records::record::HEAD_SIZE;
 use subset::Subset;
 
 // The start of the reading: the state after the head, or the refusal.
-#[derive(Drop)]
+#[derive(Clone, Copy)]
 pub enum Opening {
     Head(Reading),
     Fault(SheetFault),

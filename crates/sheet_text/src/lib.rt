@@ -1,5 +1,6 @@
 // What a loading of a sheet gave, as text on standard output: the verdict, the legs, the stations of each site, and which sites are senders.
 // Every line ends in a line feed. Where a table is shorter than the counts say, only what it holds is written.
+#![tactic(auto)]
 use answer::{Refusal, code_of};
 use landing_entries::{is_sender, terminals_in};
 use libc::STDOUT_FILENO;

@@ -7,7 +7,7 @@ ghost use Rattle.limits.specs.Limits.{max_terminals};
 ghost use Rattle.subset.specs.Sets.{full, single, has, is_part, rest, union};
 
 // A set of stations, as its number.
-#[derive(Drop)]
+#[derive(Clone, Copy)]
 pub struct Subset(pub u16);
 
 impl Subset {

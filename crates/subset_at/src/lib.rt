@@ -1,5 +1,6 @@
 // The subset at each position of the order (document 01, "Subsets"): by size, then by number. It is worked out from how many subsets of each size there
 // are, and how many of them have a given highest station.
+#![tactic(auto)]
 pub mod sizes;
 
 ghost use Rattle.std.specs.Prelude.{◌≡◌, ◌+◌, ◌<◌};
@@ -13,7 +14,7 @@ use subset::Subset;
 
 // The stations of a subset, chosen from the highest one on. Of the lowest `stations` it has `size` more: there are `count` ways to choose them, and
 // `before` of these stand before the way that is looked for. `chosen` is the set of those above.
-#[derive(Drop)]
+#[derive(Clone, Copy)]
 struct Choice {
     stations: u16,
     size: u16,

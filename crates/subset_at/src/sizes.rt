@@ -5,7 +5,7 @@ ghost use Rattle.limits.specs.Limits.{max_terminals};
 ghost use Rattle.subset_at.specs.laws.Sizes.{RangeAt};
 
 // The positions of the subsets of one size: from `first` up to, and without, `last`.
-#[derive(Drop)]
+#[derive(Clone, Copy)]
 pub struct SizeRange {
     pub size: u16,
     pub first: u16,
