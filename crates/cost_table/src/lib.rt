@@ -1,4 +1,6 @@
 // The cost table (document 01, "The cost table"): one cell for each site and each set of stations, at place v times 2^k + W.
+#![tactic(auto)]
+
 pub mod cheapest;
 
 ghost use Rattle.std.specs.Prelude.{◌≡◌, ◌+◌, ◌*◌, ◌^◌, ◌≤◌, ◌<◌, length};

@@ -1,4 +1,6 @@
 // Four cells of one site at a time, and four columns of the table, those of four sets, side by side: a table with four cells for each site.
+#![tactic(auto)]
+
 ghost use Rattle.std.specs.Prelude.{◌≡◌, ℕ, ◌+◌, ◌*◌, ◌<◌, ◌≤◌, min, ltb, length};
 ghost use Rattle.limits.specs.Limits.{max_subsets};
 ghost use Rattle.lanes.specs.laws.Four.{nth, nth_number, signed_limit, FourSmall, four_at, four_of, less_four, four_from};
