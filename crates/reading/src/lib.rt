@@ -1,5 +1,6 @@
 // Reading goes record by record: the reading state goes in, and comes back one record further.
 #![tactic(auto)]
+
 ghost use Rattle.std.specs.Prelude.{◌≡◌, ◌+◌, ◌≤◌, ◌<◌, ◌^◌, length};
 ghost use Rattle.limits.specs.Limits.{max_terminals, max_arcs};
 ghost use Rattle.reading.specs.Steps.{found_in, after, step_of};

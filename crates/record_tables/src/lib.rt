@@ -1,5 +1,6 @@
 // One record into the lent tables, leg starts, leg ends, leg prices and landing sets, and the landing entries before the first record.
 #![tactic(auto)]
+
 ghost use Rattle.std.specs.Prelude.{◌≡◌, ◌++◌, ◌+◌, ◌≤◌, ◌<◌, length, get_or, drop, set, replicate};
 ghost use Rattle.subset.specs.Sets.{union};
 ghost use Rattle.lent_tables.specs.SheetTables.{sheet_tables};
