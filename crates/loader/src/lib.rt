@@ -1,5 +1,6 @@
 // The loading of a good sheet into the lent tables: leg starts, leg ends, leg prices, landing sets.
 #![tactic(auto)]
+
 mod good_sheet;
 
 ghost use Rattle.std.specs.Prelude.{◌≡◌};

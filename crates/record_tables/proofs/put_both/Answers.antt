@@ -6,11 +6,4 @@ use Rattle.record_tables.proofs.put_both.Goals as goal
 pub returns : goal.returns
 returns c =
     let a = c.args in
-    let p1 = c.put_arc.ensures in
-    let p2 = c.put_arc-2.ensures in (
-      p2.0 ∙ ap (λ (l : List ℕ). set l (a.i + 1) a.end) p1.0,
-      (
-        p2.1.0 ∙ ap (λ (l : List ℕ). set l (a.i + 1) a.start) p1.1.0,
-        p2.1.1 ∙ ap (λ (l : List ℕ). set l (a.i + 1) a.weight) p1.1.1,
-      ),
-    )
+    record { starts_after = c.put_arc-2.ensures.starts_after ∙ ap (λ (l : List ℕ). set l (a.i + 1) a.end) c.put_arc.ensures.starts_after; ends_after = c.put_arc-2.ensures.ends_after ∙ ap (λ (l : List ℕ). set l (a.i + 1) a.start) c.put_arc.ensures.ends_after; weights_after = c.put_arc-2.ensures.weights_after ∙ ap (λ (l : List ℕ). set l (a.i + 1) a.weight) c.put_arc.ensures.weights_after }

@@ -46,15 +46,13 @@ pub returns-in-OneWay : goal.returns-in-OneWay
 returns-in-OneWay c =
     let a = c.args in
     let t = sheet_tables a.starts.now a.ends.now a.weights.now a.landings.now in
-    let e = c.put_arc.ensures in
-    one_way_written a.at a.item t _ _ _ c.in-OneWay.is e.0 e.1.0 e.1.1
+    one_way_written a.at a.item t _ _ _ c.in-OneWay.is c.put_arc.ensures.starts_after c.put_arc.ensures.ends_after c.put_arc.ensures.weights_after
 
 pub returns-in-BothWays : goal.returns-in-BothWays
 returns-in-BothWays c =
     let a = c.args in
     let t = sheet_tables a.starts.now a.ends.now a.weights.now a.landings.now in
-    let e = c.put_both.ensures in
-    both_ways_written a.at a.item t _ _ _ c.in-BothWays.is e.0 e.1.0 e.1.1
+    both_ways_written a.at a.item t _ _ _ c.in-BothWays.is c.put_both.ensures.starts_after c.put_both.ensures.ends_after c.put_both.ensures.weights_after
 
 pub returns-in-Landing : goal.returns-in-Landing
 returns-in-Landing c =
