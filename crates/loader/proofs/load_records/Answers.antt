@@ -29,28 +29,28 @@ put_record-requires c =
     let a = c.args in
     let t = sheet_tables a.starts.now a.ends.now a.weights.now a.landings.now in
     let u = sheet_tables c.loop-at.starts c.loop-at.ends c.loop-at.weights c.loop-at.landings in
-    loading_fits a.sheet.now t c.loop-at.at c.loop-at.arcs u c.loop-at.invariant.1 (omega (arith, c.loop-at-test.true, c.loop-at.invariant.0)) _ c.before.before.before.before.first_record_lem.ensures
+    loading_fits a.sheet.now t c.loop-at.at c.loop-at.arcs u c.loop-at.invariant.1 (omega (arith, c.loop-at-test.true, c.loop-at.invariant.0)) _ c.first_record-item.ensures
 
 pub overflow_add-at : goal.overflow_add-at
 overflow_add-at c =
     let a = c.args in
     let t = sheet_tables a.starts.now a.ends.now a.weights.now a.landings.now in
     let u = sheet_tables c.loop-at.starts c.loop-at.ends c.loop-at.weights c.loop-at.landings in
-    omega (arith, c.size-at.ensures, place_fits a.sheet.now t c.loop-at.at c.loop-at.arcs u c.loop-at.invariant.1 (omega (arith, c.loop-at-test.true, c.loop-at.invariant.0)) _ c.before.before.before.before.before.before.before.before.before.before.before.before.before.before.first_record_lem.ensures)
+    omega (arith, c.size-at.ensures, place_fits a.sheet.now t c.loop-at.at c.loop-at.arcs u c.loop-at.invariant.1 (omega (arith, c.loop-at-test.true, c.loop-at.invariant.0)) _ c.first_record-item.ensures)
 
 pub overflow_add-arcs : goal.overflow_add-arcs
 overflow_add-arcs c =
     let a = c.args in
     let t = sheet_tables a.starts.now a.ends.now a.weights.now a.landings.now in
     let u = sheet_tables c.loop-at.starts c.loop-at.ends c.loop-at.weights c.loop-at.landings in
-    omega (arith, c.arc_count-arcs.ensures, count_fits a.sheet.now t c.loop-at.at c.loop-at.arcs u c.loop-at.invariant.1 (omega (arith, c.loop-at-test.true, c.loop-at.invariant.0)) _ c.before.before.before.before.before.before.before.before.before.before.before.before.before.before.before.first_record_lem.ensures)
+    omega (arith, c.arc_count-arcs.ensures, count_fits a.sheet.now t c.loop-at.at c.loop-at.arcs u c.loop-at.invariant.1 (omega (arith, c.loop-at-test.true, c.loop-at.invariant.0)) _ c.first_record-item.ensures)
 
 pub loop-at-smaller : goal.loop-at-smaller
 loop-at-smaller c =
     let a = c.args in
     let t = sheet_tables a.starts.now a.ends.now a.weights.now a.landings.now in
     let u = sheet_tables c.loop-at.starts c.loop-at.ends c.loop-at.weights c.loop-at.landings in
-    loading_falls a.sheet.now t c.loop-at.at c.loop-at.arcs u c.loop-at.invariant.1 (omega (arith, c.loop-at-test.true, c.loop-at.invariant.0)) _ c.before.before.before.before.before.before.before.before.before.before.before.before.before.before.before.first_record_lem.ensures _ c.size-at.ensures
+    loading_falls a.sheet.now t c.loop-at.at c.loop-at.arcs u c.loop-at.invariant.1 (omega (arith, c.loop-at-test.true, c.loop-at.invariant.0)) _ c.first_record-item.ensures _ c.size-at.ensures
 
 pub loop-at-preserved : goal.loop-at-preserved
 loop-at-preserved c =
@@ -58,7 +58,7 @@ loop-at-preserved c =
     let t = sheet_tables a.starts.now a.ends.now a.weights.now a.landings.now in
     let u = sheet_tables c.loop-at.starts c.loop-at.ends c.loop-at.weights c.loop-at.landings in (
       c.loop-at.invariant.0,
-      loading_next a.sheet.now t c.loop-at.at c.loop-at.arcs u c.loop-at.invariant.1 (omega (arith, c.loop-at-test.true, c.loop-at.invariant.0)) _ c.before.before.before.before.before.before.before.before.before.before.before.before.before.before.before.first_record_lem.ensures _ _ c.size-at.ensures c.arc_count-arcs.ensures _ c.put_record.ensures,
+      loading_next a.sheet.now t c.loop-at.at c.loop-at.arcs u c.loop-at.invariant.1 (omega (arith, c.loop-at-test.true, c.loop-at.invariant.0)) _ c.first_record-item.ensures _ _ c.size-at.ensures c.arc_count-arcs.ensures _ c.put_record.ensures,
       search rules,
       search rules,
       search rules,
