@@ -1,5 +1,6 @@
 // The tests of a plan file by itself, for a sheet with n sites and so many legs: refusals 14, 15 and 16.
 #![tactic(auto)]
+
 ghost use Rattle.std.specs.Prelude.{◌≡◌, ◌+◌, ◌≤◌, ◌<◌, length};
 ghost use Rattle.planfile.specs.Format.{file_size, count_in};
 ghost use Rattle.file_tests.specs.FileFaults.{arc_fault, arcs_fault};

@@ -1,6 +1,7 @@
 // The opening of a sheet, with which every entry point that takes one begins: the sheet is judged whole, then the lengths of all needed tables are
 // tested, and only then are the tables that hold a sheet written.
 #![tactic(auto)]
+
 ghost use Rattle.std.specs.Prelude.{◌≡◌};
 ghost use Rattle.lent_tables.specs.SheetTables.{sheet_tables};
 ghost use Rattle.lent_tables.specs.Lengths.{no_further};
