@@ -2,6 +2,7 @@
 // walked site by site, from the root on, in the order in which the sites are marked, so that each listed leg is looked at once.
 // Nothing is proved of the rows but bounds: a leg marks its end only where its start is marked.
 #![tactic(auto)]
+
 ghost use Rattle.std.specs.Prelude.{◌≤◌, ◌<◌, length};
 ghost use Rattle.limits.specs.Limits.{max_nodes, max_arcs};
 ghost use Rattle.planfile.specs.Format.{file_size, arcs_to};

@@ -1,5 +1,6 @@
 // Prices split over stations (document 02, W-204): one price over a set of stations, and the prices of the listed legs one after the other.
 #![tactic(auto)]
+
 ghost use Rattle.std.specs.Prelude.{◌≡◌, ◌+◌, ◌^◌, ◌≤◌, ◌<◌, length, get_or, replicate};
 ghost use Rattle.limits.specs.Limits.{max_terminals, no_cost};
 ghost use Rattle.price_parts.specs.Splitting.{

@@ -2,6 +2,7 @@
 // The legs are followed row by row from the root, each listed leg once; then passes over the listed legs mark what is left, until one marks no
 // site. What is marked is right whatever the rows are, and the last pass tells that nothing is left: the rows only save passes.
 #![tactic(auto)]
+
 mod passes;
 
 ghost use Rattle.std.specs.Prelude.{◌≡◌, ◌≤◌, ◌<◌, length, replicate};
