@@ -15,13 +15,13 @@ pub returns-then-not-marked : goal.returns-then-not-marked
 returns-then-not-marked c =
     let a = c.args in
     let b = c.mark_once-marked.result in
-    pass_completes _ a.starts.now a.ends.now _ _ _ c.loop-count.invariant b (not-true b c.if-not-marked.true) c.mark_once-marked.ensures
+    pass_completes _ a.starts.now a.ends.now _ _ _ c.loop-count.invariant b c.if-not-marked.true c.mark_once-marked.ensures
 
 pub loop-count-smaller : goal.loop-count-smaller
 loop-count-smaller c =
     let a = c.args in
     let b = c.mark_once-marked.result in
-    pass_falls _ a.starts.now a.ends.now _ _ _ c.loop-count.invariant b (not-false b c.if-not-marked.false) c.mark_once-marked.ensures
+    pass_falls _ a.starts.now a.ends.now _ _ _ c.loop-count.invariant b c.if-not-marked.false c.mark_once-marked.ensures
 
 pub loop-count-preserved : goal.loop-count-preserved
 loop-count-preserved c =

@@ -8,6 +8,7 @@ use Rattle.marking.specs.Links.{link_graph}
 use Rattle.reaching.specs.Passes.{Passing}
 use Rattle.reaching.specs.laws.Passing.{or_taken, or_left, passing_start, passing_arc}
 use Rattle.reaching.proofs.passes.mark_once.Goals as goal
+use Rattle.reaching.proofs.passes.mark_once.Goals.{then-mark_end, else-mark_end}
 
 pub loop-i-init : goal.loop-i-init
 loop-i-init c = (search rules, passing_start _ _ _)
@@ -29,11 +30,19 @@ loop-i-preserved c =
     (value_in (listed_arc a.file.now) a.count c.loop-i.i c.loop-i-test.true) in
     let a = c.args in
     let pass = c.loop-i.invariant.1 in
-    let b = c.loop-i.marked in (
-      search rules,
-      passing_arc _ _ _ _ c.requires.1 _ (found) (listed_arc a.file.now) _ _ _ _ _ c.mark_end.result _ refl c.arc_at-e.ensures pass
-          c.mark_end.ensures (⊎_elim (λ w. or_taken b w.0.taken w.1) (λ w. or_left b w.0.left w.1) c.if-mark_end.branch),
-    )
+    let b = c.loop-i.marked in
+    elim c.if-mark_end.branch [
+      then-mark_end w ↦ (
+        search rules,
+        passing_arc _ _ _ _ c.requires.1 _ found (listed_arc a.file.now) _ _ _ _ _ c.mark_end.result _ refl c.arc_at-e.ensures pass c.mark_end.ensures
+            (or_taken b w.if-mark_end.true w.marked-is),
+      )
+    | else-mark_end w ↦ (
+        search rules,
+        passing_arc _ _ _ _ c.requires.1 _ found (listed_arc a.file.now) _ _ _ _ _ c.mark_end.result _ refl c.arc_at-e.ensures pass c.mark_end.ensures
+            (or_left b w.if-mark_end.false w.marked-is),
+      )
+    ]
 
 pub returns : goal.returns
 returns c =
