@@ -16,10 +16,10 @@ abbrev decreases-loop : tie.decreases-loop
 decreases-loop starts weights index places n round lanes₀ turns₀ left₀ turn₀ lanes turns left turn = left
 
 enter-all-requires : tie.Need-enter-all-requires invariant-loop decreases-loop
-enter-all-requires c κs = let p = c.before.before.before.before.before.before.before.before.requires in (p.0, p.1.by_end.few, p.1.by_end.wide)
+enter-all-requires c κs = let p = c.before.before.before.before.before.before.before.before.requires in (p.0, p.1.indexed.few, p.1.indexed.wide)
 
 most-turns-requires : tie.Need-most-turns-requires invariant-loop decreases-loop
-most-turns-requires c κs = c.before.before.before.before.before.before.before.before.before.before.before.requires.1.by_end.few
+most-turns-requires c κs = c.before.before.before.before.before.before.before.before.before.before.before.requires.1.indexed.few
 
 first-turn-requires : tie.Need-first-turn-requires invariant-loop decreases-loop
 first-turn-requires c κs = c.before.before.before.before.enter-all.auto.1.1.1.0 ∙ c.before.before.before.before.before.before.before.before.before.before.before.before.before.requires.0
@@ -40,7 +40,7 @@ returns : tie.Need-returns invariant-loop decreases-loop
 returns c = c.before.before.before.loop.invariant.1
 
 leave-requires : tie.Need-leave-requires invariant-loop decreases-loop
-leave-requires c κs = (c.before.before.before.before.loop.invariant.0, omega (arith, c.before.if1.false, c.before.before.before.before.before.before.before.before.before.before.before.before.before.before.before.before.before.before.before.requires.1.by_end.few))
+leave-requires c κs = (c.before.before.before.before.loop.invariant.0, omega (arith, c.before.if1.false, c.before.before.before.before.before.before.before.before.before.before.before.before.before.before.before.before.before.before.before.requires.1.indexed.few))
 
 visit-requires : tie.Need-visit-requires invariant-loop decreases-loop
 visit-requires c κs =
