@@ -28,4 +28,4 @@ pub returns-then-by_set-lowest-gt0 : goal.returns-then-by_set-lowest-gt0
 returns-then-by_set-lowest-gt0 c = no_part
 
 pub returns : goal.returns
-returns c = lowest_free (set_costs c.args.by-set.now c.args.j) c.args.w c.args.heard (omega (arith, c.if-by_set-lowest-gt0.false))
+returns c = lowest_free (set_costs c.args.by_set.now c.args.j) c.args.w c.args.heard (omega (arith, c.if-by_set-lowest-gt0.false))
