@@ -1,6 +1,7 @@
 // The cells of four sets are taken from the table, lowered along the legs until no leg gives less, and put back; so are those of each set of
 // one size, four at a time.
 #![tactic(auto)]
+
 ghost use Rattle.std.specs.Prelude.{◌≡◌, false, ℕ, ◌<◌, ◌≤◌, length};
 ghost use Rattle.limits.specs.Limits.{max_subsets};
 ghost use Rattle.lent_tables.specs.SheetTables.{arcs_alone};

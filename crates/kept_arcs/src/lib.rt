@@ -1,5 +1,6 @@
 // The legs that count in a search: of those with the same start and the same end a cheapest one.
 #![tactic(auto)]
+
 ghost use Rattle.std.specs.Prelude.{◌≡◌, ◌⊎◌, true, ℕ, ◌+◌, ◌<◌, ◌≤◌, length};
 ghost use Rattle.limits.specs.Limits.{max_nodes, max_arcs};
 ghost use Rattle.working_none.specs.laws.Low.{entry};

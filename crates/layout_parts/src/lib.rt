@@ -1,5 +1,6 @@
 // Which part splits a set w at a site v, in one step of the layout.
 #![tactic(auto)]
+
 ghost use Rattle.std.specs.Prelude.{◌≡◌, ◌&&◌, ◌+◌, ◌*◌, ◌-◌, ◌^◌, ◌≤◌, ◌<◌, eqb, length};
 ghost use Rattle.limits.specs.Limits.{max_terminals, no_cost};
 ghost use Rattle.lists.specs.Find.{first};

@@ -1,5 +1,6 @@
 // The tests of one step of the layout at a site v with a set w: whether nothing is added, and which leg fits.
 #![tactic(auto)]
+
 ghost use Rattle.std.specs.Prelude.{◌≡◌, false, ◌+◌, ◌<◌, ◌≤◌, length, get_or};
 ghost use Rattle.lists.specs.Find.{first};
 ghost use Rattle.lent_tables.specs.SheetTables.{arcs_alone};

@@ -1,6 +1,7 @@
 // "the lowest-numbered leg from v .. is added, and its end is followed with W", leg after leg, until nothing is added or no leg fits.
 // The tables hold a sheet with n sites, k stations and so many legs, and its finished cost table.
 #![tactic(auto)]
+
 ghost use Rattle.std.specs.Prelude.{length};
 ghost use Rattle.lent_tables.specs.SheetTables.{sheet_tables};
 ghost use Rattle.graph.specs.HeldGraph.{graph_in};

@@ -1,5 +1,6 @@
 // The sets below a number in their order, and where the sets of one size stand there.
 #![tactic(auto)]
+
 ghost use Rattle.std.specs.Prelude.{◌≡◌, ◌<◌, ◌≤◌, length};
 ghost use Rattle.limits.specs.Limits.{max_subsets};
 ghost use Rattle.order_ranges.specs.laws.Ranges.{Ordered, SizeEnd, entry_of};

@@ -1,5 +1,6 @@
 // The tests of a file's root, legs and total against the sheet, where the sites that the legs reach are marked: refusals 17, 20, 18 and 19.
 #![tactic(auto)]
+
 ghost use Rattle.std.specs.Prelude.{◌≡◌, ◌≤◌, ◌<◌, cond, eqb, length};
 ghost use Rattle.limits.specs.Limits.{max_terminals};
 ghost use Rattle.lists.specs.Count.{bit};

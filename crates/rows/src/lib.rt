@@ -1,5 +1,6 @@
 // The cells of one site, one for each set of stations, as they are before the search.
 #![tactic(auto)]
+
 ghost use Rattle.std.specs.Prelude.{◌≡◌, map, ◌*◌, ◌≤◌, length};
 ghost use Rattle.limits.specs.Limits.{max_nodes, max_subsets};
 ghost use Rattle.lists.specs.Numbers.{numbers};

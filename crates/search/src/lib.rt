@@ -1,6 +1,7 @@
 // The search: the cost table over the graph that loaded tables hold (document 01, "The cost table").
 // Of parallel legs a cheapest one is kept. The cells start with the landings; then, size by size, the sets are split at each site, and closed over the legs.
 #![tactic(auto)]
+
 ghost use Rattle.std.specs.Prelude.{◌≡◌, ◌*◌, ◌^◌, ◌≤◌, length, replicate};
 ghost use Rattle.limits.specs.Limits.{no_cost, max_subsets};
 ghost use Rattle.lists.specs.Over.{over};

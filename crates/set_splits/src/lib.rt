@@ -1,5 +1,6 @@
 // The splits of one set into two parts at four sites: the least that the set costs there by itself or by a split.
 #![tactic(auto)]
+
 ghost use Rattle.std.specs.Prelude.{◌≡◌, ◌+◌, ◌-◌, ◌*◌, ◌<◌, ◌≤◌, length};
 ghost use Rattle.limits.specs.Limits.{max_subsets};
 ghost use Rattle.lanes.specs.laws.Four.{FourLow};

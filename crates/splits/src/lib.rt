@@ -1,5 +1,6 @@
 // The cells of each site, one for each set of stations, are lowered by the splits of the sets of one size into two parts, four sites at a time.
 #![tactic(auto)]
+
 ghost use Rattle.std.specs.Prelude.{◌≡◌, ◌+◌, ◌*◌, ◌<◌, ◌≤◌, length};
 ghost use Rattle.limits.specs.Limits.{max_nodes, max_subsets};
 ghost use Rattle.order_ranges.specs.laws.Ranges.{Ordered, OneSize, entry_of};

@@ -1,5 +1,6 @@
 // The table of turns: which sites have a turn, by which key, and which is next. A key is a cost, or a sum of four costs.
 #![tactic(auto)]
+
 ghost use Rattle.std.specs.Prelude.{◌≡◌, ◌+◌, ◌*◌, ◌<◌, ◌≤◌, min, length};
 ghost use Rattle.limits.specs.Limits.{max_nodes};
 ghost use Rattle.turn_table.specs.laws.Entries.{turn_entries, key_limit};

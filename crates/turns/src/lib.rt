@@ -1,6 +1,7 @@
 // A first lowering of the cells of four sets along the legs: a site whose cells fell has a turn, the least turn is taken first, and in its turn
 // the legs that end there are tried, by the index. It only makes the settling short: that no leg gives less is found there.
 #![tactic(auto)]
+
 ghost use Rattle.std.specs.Prelude.{◌≡◌, ◌≤◌, length};
 ghost use Rattle.limits.specs.Limits.{max_nodes};
 ghost use Rattle.turn_table.specs.laws.Entries.{turn_entries};

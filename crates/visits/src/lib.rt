@@ -1,5 +1,6 @@
 // The turn of one site: the legs that end there, by the index, lower the cells of their starts, and these have a turn.
 #![tactic(auto)]
+
 ghost use Rattle.std.specs.Prelude.{◌≡◌, ◌+◌, ◌*◌, ◌<◌, ◌≤◌, length};
 ghost use Rattle.limits.specs.Limits.{max_nodes};
 ghost use Rattle.working_none.specs.laws.Low.{AllLow};

@@ -55,7 +55,7 @@ module _ {n m size : ℕ} {t : SheetTables} {by_end places cells lanes : List �
   }
 
   pub taken_some : SomeArcs n t.starts t.weights by_end places taken
-  taken_some = record { m = m; end = end_at t; by_end = taken_arcs }
+  taken_some = record { m = m; end = end_at t; indexed = taken_arcs }
 
   -- the arcs of the index
   listed : (lanes' : List ℕ) → length lanes' ≡ length taken → AllLow lanes' → ListLanes t by_end (entry places n) lanes'

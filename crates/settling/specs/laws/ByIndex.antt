@@ -28,7 +28,7 @@ pub record ArcsByEnd (n m : ℕ) (end : ℕ → ℕ) (starts weights by_end plac
 pub record SomeArcs (n : ℕ) (starts weights by_end places lanes : List ℕ) : Type 0 where
   pub m : ℕ
   pub end : ℕ → ℕ
-  pub by_end : ArcsByEnd n m end starts weights by_end places lanes
+  pub indexed : ArcsByEnd n m end starts weights by_end places lanes
 
 -- other cells, of the same number
 pub same_arcs : {n m : ℕ} {end : ℕ → ℕ} {starts weights by_end places before after : List ℕ} → length after ≡ length before → AllLow after
@@ -66,16 +66,16 @@ pub record AtNode (places lanes : List ℕ) (v : ℕ) : Type 0 where
   pub fits : v * 4 + 4 ≤ length lanes
 
 pub at_node : {n v : ℕ} {starts weights by_end places lanes : List ℕ} → SomeArcs n starts weights by_end places lanes → v < n → AtNode places lanes v
-at_node S on = record { next = omega (arith, S.by_end.index.places_long); fits = omega (arith, S.by_end.wide) }
+at_node S on = record { next = omega (arith, S.indexed.index.places_long); fits = omega (arith, S.indexed.wide) }
 
 pub here_low : {n v : ℕ} {here : Four} {starts weights by_end places lanes : List ℕ} → SomeArcs n starts weights by_end places lanes → v < n
     → here ≡ four_of lanes v → FourLow here
-here_low {v = v} {lanes = lanes} S on is = four_low lanes v (at_node S on).fits S.by_end.low is
+here_low {v = v} {lanes = lanes} S on is = four_low lanes v (at_node S on).fits S.indexed.low is
 
 module _ {n v : ℕ} {starts weights by_end places lanes : List ℕ} (S : SomeArcs n starts weights by_end places lanes) (on : v < n) where
   pub entry_known : {i : ℕ} → entry places v ≤ i → i < entry places (v + 1) → InGroup starts weights by_end lanes i
   entry_known {i} from to =
-      let T = S.by_end in
+      let T = S.indexed in
       let arc = (T.index.group v i on from to).0 in record {
         on = omega (arith, T.index.place_le (v + 1) (omega arith), T.index.by_end_long);
         starts_on = omega (arith, arc, T.starts_long);
@@ -86,7 +86,7 @@ module _ {n v : ℕ} {starts weights by_end places lanes : List ℕ} (S : SomeAr
       }
 
   pub known_from : {first : ℕ} → entry places v ≤ first → Entries starts weights by_end lanes first (entry places (v + 1))
-  known_from later = record { low = S.by_end.low; each = λ i from to. entry_known (omega arith) to }
+  known_from later = record { low = S.indexed.low; each = λ i from to. entry_known (omega arith) to }
 
 -- ---- the first entry whose arc gives less
 
@@ -146,7 +146,7 @@ pub record ClosedBefore (n : ℕ) (starts weights by_end places lanes : List ℕ
 
 module _ {n : ℕ} {starts weights by_end places lanes : List ℕ} where
   pub before_none : SomeArcs n starts weights by_end places lanes → ClosedBefore n starts weights by_end places lanes 0 0
-  before_none S = record { within = omega arith; is = sym S.by_end.index.first; closed = λ m end T. record { each = λ e l. absurd (omega arith) } }
+  before_none S = record { within = omega arith; is = sym S.indexed.index.first; closed = λ m end T. record { each = λ e l. absurd (omega arith) } }
 
   module _ {v i r : ℕ} {here : Four} (C : ClosedBefore n starts weights by_end places lanes v i) (on : v < n) (was : here ≡ four_of lanes v)
       (N : NextFalling starts weights by_end lanes here i (entry places (v + 1)) r) where

@@ -22,7 +22,7 @@ module _ {n : ℕ} {t : SheetTables} {list places before : List ℕ} (A : Settle
   }
 
   pub some_arcs : SomeArcs n t.starts t.weights list places before
-  some_arcs = record { m = A.m; end = end_at t; by_end = A.by_end }
+  some_arcs = record { m = A.m; end = end_at t; indexed = A.by_end }
 
   pub first_of : {r : ℕ} → OpenByIndex n t.starts t.weights list places before r
       → FirstOpen (entry places n) (start_of t list) (end_of t list) (weight_of t list) before r

@@ -21,7 +21,7 @@ module _ {n : ℕ} {starts weights by_end places : List ℕ} where
 
   module _ {before mid : List ℕ} (L : LoweredByIndex n starts weights by_end places before mid) where
     pub still_some : SomeArcs n starts weights by_end places before → SomeArcs n starts weights by_end places mid
-    still_some S = record { m = S.m; end = S.end; by_end = still_arcs (L.lowered S.m S.end S.by_end) S.by_end }
+    still_some S = record { m = S.m; end = S.end; indexed = still_arcs (L.lowered S.m S.end S.indexed) S.indexed }
 
     pub index_more : {after : List ℕ} → LoweredByIndex n starts weights by_end places mid after → LoweredByIndex n starts weights by_end places before after
     index_more P = record {
@@ -29,7 +29,7 @@ module _ {n : ℕ} {starts weights by_end places : List ℕ} where
     }
 
     pub index_length : SomeArcs n starts weights by_end places before → length mid ≡ length before
-    index_length S = (L.lowered S.m S.end S.by_end).same_length
+    index_length S = (L.lowered S.m S.end S.indexed).same_length
 
   pub index_none : {before : List ℕ} → LoweredByIndex n starts weights by_end places before before
   index_none = record { lowered = λ m end T. lowered_none }

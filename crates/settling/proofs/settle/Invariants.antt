@@ -1,0 +1,15 @@
+-- `settling::settle` meets its contract. The loop's invariant: the cells are lowered along arcs. The measure is their sum.
+-- Assumes nothing.
+use Rattle.std.proofs.Common.{length}
+use Rattle.lists.specs.Sums.{sum_to}
+use Rattle.lent_tables.specs.SheetTables.{arcs_alone}
+use Rattle.working_none.specs.laws.Low.{entry}
+use Rattle.settling.specs.laws.Arcs.{start_of, end_of, weight_of}
+use Rattle.settling.specs.laws.Lowered.{Lowered}
+use Rattle.settling.proofs.settle.Given as goal
+
+abbrev pub invariant-loop-n : goal.invariant-loop-n
+invariant-loop-n l = let t = arcs_alone l.starts l.ends l.weights in Lowered (entry l.places l.n) (start_of t l.index) (end_of t l.index) (weight_of t l.index) l.initial.lanes l.lanes
+
+abbrev pub decreases-loop-n : goal.decreases-loop-n
+decreases-loop-n l = sum_to (length l.initial.lanes) (entry l.lanes)
