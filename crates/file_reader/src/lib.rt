@@ -1,6 +1,7 @@
 // A plan file is read against the tables that hold a sheet: it is tested by itself, the sites that its legs reach are marked, and the plan is
 // tested.
 #![tactic(auto)]
+
 ghost use Rattle.std.specs.Prelude.{◌≡◌, length};
 ghost use Rattle.answer.specs.Stated.{stated};
 ghost use Rattle.lent_tables.specs.SheetTables.{sheet_tables};
