@@ -1,6 +1,6 @@
 -- `copy_order` meets its contract.
 -- Assumes nothing.
-use Rattle.std.proofs.Common.{ℕ, ◌-◌, ap, ◌∙◌, List, map, arith, get_or, rules}
+use Rattle.std.proofs.Common.{ℕ, ap, ◌∙◌, List, map, arith, get_or, rules}
 use lib.Count.{ones_in}
 use Rattle.lists.specs.Numbers.{numbers}
 use Rattle.lists.specs.Values.{no_values, next_value, all_values}
