@@ -1,5 +1,6 @@
 // A plan file is read against the tables that hold a sheet, and where it is accepted, the prices of its legs are divided into shares.
 #![tactic(auto)]
+
 ghost use Rattle.std.specs.Prelude.{◌≡◌, length};
 ghost use Rattle.answer.specs.Stated.{stated_sharing};
 ghost use Rattle.lent_tables.specs.SheetTables.{sheet_tables};

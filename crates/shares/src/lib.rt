@@ -1,6 +1,7 @@
 // The shares of the stations in a plan (document 02, W-204): a sheet, a plan file, the plan reader's tables and a share table go in; the file is
 // accepted and its prices are divided, or the answer says what is wrong and where.
 #![tactic(auto)]
+
 ghost use Rattle.std.specs.Prelude.{◌≡◌};
 ghost use Rattle.answer.specs.Stated.{stated_sharing};
 ghost use Rattle.lent_tables.specs.SheetTables.{sheet_tables};
