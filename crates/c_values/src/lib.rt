@@ -1,5 +1,6 @@
 // What an answer states, for C: a number and values. The number is returned, the values are written as far as there are entries for them.
 #![tactic(auto)]
+
 ghost use Rattle.std.specs.Prelude.{◌≡◌, set};
 ghost use Rattle.answer.specs.Stated.{stated, stated_enquiry, stated_sharing, stated_refusal};
 ghost use Rattle.c_values.specs.Values.{Gives};

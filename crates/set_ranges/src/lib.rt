@@ -1,5 +1,6 @@
 // The sets of k stations in their order, and where the sets of one size stand there.
 #![tactic(auto)]
+
 ghost use Rattle.std.specs.Prelude.{◌≡◌, map, ◌^◌, ◌<◌, ◌≤◌, length};
 ghost use Rattle.std.specs.Int.Count.{ones};
 ghost use Rattle.limits.specs.Limits.{max_terminals, max_subsets};

@@ -1,6 +1,7 @@
 // The subset at each position of the order (document 01, "Subsets"): by size, then by number. It is worked out from how many subsets of each size there
 // are, and how many of them have a given highest station.
 #![tactic(auto)]
+
 pub mod sizes;
 
 ghost use Rattle.std.specs.Prelude.{◌≡◌, ◌+◌, ◌<◌};

@@ -1,3 +1,0 @@
--- what the walks over the struct share
-pub mod Held
-pub mod Made
