@@ -2,7 +2,7 @@
 -- family, the number and the place of a refusal. The promises of all entry points are stated with these definitions.
 -- Assumes nothing.
 use Rattle.std.specs.Prelude.{ℕ}
-use Rattle.limits.specs.Refusals.{short_sheet, strange_mark, bad_head, no_such_site, no_such_station, loop, bad_price, too_many_legs, after_the_end, unheard, short_tables, no_plan, short_buffer, cut_plan, bad_plan, unknown_number, no_tree, station_missed, false_total, not_aSender}
+use Rattle.limits.specs.Refusals.{short_sheet, strange_mark, bad_head, no_such_site, no_such_station, loop, bad_price, too_many_legs, after_the_end, unheard, short_tables, no_plan, short_buffer, cut_plan, bad_plan, unknown_number, no_tree, station_missed, false_total, not_a_sender}
 use Rattle.answer.specs.declared.SheetFault.{SheetFault}
 use Rattle.answer.specs.declared.SheetFault.TheVariants.{ShortSheet, StrangeMark, BadHead, NoSuchSite, NoSuchStation, Loop, BadPrice, TooManyLegs, AfterTheEnd, Unheard}
 use Rattle.answer.specs.declared.TableFault.{TableFault}
@@ -63,7 +63,7 @@ stated_plan_file (UnknownNumber place) = refused of_plan_file unknown_number pla
 stated_plan_file NoTree = refused of_plan_file no_tree 0
 stated_plan_file StationMissed = refused of_plan_file station_missed 0
 stated_plan_file FalseTotal = refused of_plan_file false_total 0
-stated_plan_file NotASender = refused of_plan_file not_aSender 0
+stated_plan_file NotASender = refused of_plan_file not_a_sender 0
 
 -- a refusal's family, number and place
 abbrev pub stated_refusal : Refusal → Stated

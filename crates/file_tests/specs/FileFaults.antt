@@ -3,7 +3,7 @@
 -- Assumes nothing.
 use Rattle.std.specs.Prelude.{ℕ, Bool, true, false, cond, not, List, length, ltb, leb, eqb}
 use Rattle.std.proofs.Math.Option.{Option, none, some}
-use Rattle.limits.specs.Marks.{mark_pN, mark_lG}
+use Rattle.limits.specs.Marks.{mark_pn, mark_lg}
 use Rattle.lists.specs.Find.{first}
 use Rattle.answer.specs.declared.PlanFault.{PlanFault}
 use Rattle.answer.specs.declared.PlanFault.TheVariants.{CutPlan, BadPlan, UnknownNumber}
@@ -14,7 +14,7 @@ use Rattle.planfile.specs.Format.{file_size, root_in, count_in, mark_at, listed_
 abbrev pub head_fault : ℕ → List ℕ → Option PlanFault
 head_fault n file =
     cond (ltb (length file) (file_size 0)) (some CutPlan)
-    (cond (not (eqb (number16 file 0) mark_pN)) (some (BadPlan 0))
+    (cond (not (eqb (number16 file 0) mark_pn)) (some (BadPlan 0))
     (cond (leb n (root_in file)) (some (UnknownNumber 0))
     (cond (ltb (length file) (file_size (count_in file))) (some CutPlan)
     (cond (ltb (file_size (count_in file)) (length file)) (some (BadPlan (file_size (count_in file))))
@@ -23,7 +23,7 @@ head_fault n file =
 -- record i: its mark (15) and number (16), at its start
 abbrev pub arc_fault : ℕ → List ℕ → ℕ → Option PlanFault
 arc_fault m file i =
-    cond (not (eqb (mark_at file i) mark_lG)) (some (BadPlan (file_size i)))
+    cond (not (eqb (mark_at file i) mark_lg)) (some (BadPlan (file_size i)))
     (cond (leb m (listed_arc file i)) (some (UnknownNumber (file_size i)))
     none)
 

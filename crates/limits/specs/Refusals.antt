@@ -59,5 +59,5 @@ station_missed = 18
 abbrev pub false_total : ℕ
 false_total = 19
 
-abbrev pub not_aSender : ℕ
-not_aSender = 20
+abbrev pub not_a_sender : ℕ
+not_a_sender = 20

@@ -3,7 +3,7 @@
 -- Assumes nothing.
 use Rattle.std.specs.Prelude.{ℕ, ◌<◌, ◌≤◌, ◌≡◌, ◌⊎◌, ◌↔◌, cond, List, leb, eqb, length, get_or, replicate}
 use Rattle.limits.specs.Limits.{no_cost}
-use Rattle.limits.specs.Refusals.{short_sheet, unheard, short_tables, no_plan, short_buffer, cut_plan, unknown_number, no_tree, not_aSender}
+use Rattle.limits.specs.Refusals.{short_sheet, unheard, short_tables, no_plan, short_buffer, cut_plan, unknown_number, no_tree, not_a_sender}
 use Rattle.lists.specs.Over.{over}
 use Rattle.answer.specs.Stated.{Family, of_sheet, of_tables, of_search, of_plan_file, Stated, plan, shared, cell, sender, no_sender, refused, stated_sheet}
 use Rattle.answer.specs.declared.SheetFault.{SheetFault}
@@ -44,7 +44,7 @@ EngineNumber number = (short_sheet ≤ number) × (number ≤ short_buffer)
 
 -- the plan reader's: 1 to 11 and 14 to 20
 abbrev pub ReaderNumber : ℕ → Type 0
-ReaderNumber number = ((short_sheet ≤ number) × (number ≤ short_tables)) ⊎ ((cut_plan ≤ number) × (number ≤ not_aSender))
+ReaderNumber number = ((short_sheet ≤ number) × (number ≤ short_tables)) ⊎ ((cut_plan ≤ number) × (number ≤ not_a_sender))
 
 -- 1 to 11 are given exactly where they are due: a sheet that is not good gets the refusal of its verdict, number and place; a good sheet with a
 -- table that is not long enough gets 11; and a good sheet with long enough tables gets none of them

@@ -3,7 +3,7 @@
 -- Assumes nothing.
 use Rattle.std.specs.Prelude.{ℕ, ◌+◌, ◌*◌, ◌^◌, Bool, cond, ◌&&◌, List, ◌++◌, map, length, ltb}
 use Rattle.std.proofs.Math.Option.{Option, none, some}
-use Rattle.limits.specs.Marks.{mark_pN, mark_lG}
+use Rattle.limits.specs.Marks.{mark_pn, mark_lg}
 use Rattle.lists.specs.Find.{all_of}
 use Rattle.lists.specs.Joined.{joined}
 use Rattle.lists.specs.Numbers.{numbers}
@@ -13,11 +13,11 @@ use Rattle.number_fields.specs.Fields.{number16, number32, bytes16, bytes32}
 
 -- `PN`, root, total, leg count
 abbrev pub head_bytes : (root total count : ℕ) → List ℕ
-head_bytes root total count = bytes16 mark_pN ++ (bytes16 root ++ (bytes32 total ++ bytes16 count))
+head_bytes root total count = bytes16 mark_pn ++ (bytes16 root ++ (bytes32 total ++ bytes16 count))
 
 -- `LG`, leg number
 abbrev pub arc_bytes : ℕ → List ℕ
-arc_bytes e = bytes16 mark_lG ++ bytes16 e
+arc_bytes e = bytes16 mark_lg ++ bytes16 e
 
 -- the head, then a record for each leg
 abbrev pub file_bytes : (root total : ℕ) → List ℕ → List ℕ

@@ -1,7 +1,7 @@
 -- One record further: what stands at the start of the bytes that are left, by its mark, and the reading state after it.
 -- Assumes nothing.
 use Rattle.std.specs.Prelude.{ℕ, ◌+◌, cond, List, length, drop, ltb, eqb}
-use Rattle.limits.specs.Marks.{mark_lK, mark_bK, mark_sT, mark_sR, mark_eD}
+use Rattle.limits.specs.Marks.{mark_lk, mark_bk, mark_st, mark_sr, mark_ed}
 use Rattle.answer.specs.declared.SheetFault.TheVariants.{ShortSheet, StrangeMark}
 use Rattle.subset.specs.Sets.{union}
 use Rattle.number_fields.specs.Fields.{number16}
@@ -20,11 +20,11 @@ use Rattle.reading.specs.declared.Step.TheVariants.{Next, End as Ended, Fault as
 abbrev pub found_in : Reading → List ℕ → Found
 found_in r bytes =
     cond (ltb (length bytes) 2) (Fault (ShortSheet r.offset))
-    (cond (eqb (number16 bytes 0) mark_lK) (one_way_found r.offset r.n r.arcs (link_fields (drop 2 bytes)))
-    (cond (eqb (number16 bytes 0) mark_bK) (both_ways_found r.offset r.n r.arcs (link_fields (drop 2 bytes)))
-    (cond (eqb (number16 bytes 0) mark_sT) (landing_found r.offset r.n r.k (landing_fields (drop 2 bytes)))
-    (cond (eqb (number16 bytes 0) mark_sR) (sender_found r.offset r.n (sender_fields (drop 2 bytes)))
-    (cond (eqb (number16 bytes 0) mark_eD) (end_found r.offset r.k r.heard.0 (length (drop 2 bytes)))
+    (cond (eqb (number16 bytes 0) mark_lk) (one_way_found r.offset r.n r.arcs (link_fields (drop 2 bytes)))
+    (cond (eqb (number16 bytes 0) mark_bk) (both_ways_found r.offset r.n r.arcs (link_fields (drop 2 bytes)))
+    (cond (eqb (number16 bytes 0) mark_st) (landing_found r.offset r.n r.k (landing_fields (drop 2 bytes)))
+    (cond (eqb (number16 bytes 0) mark_sr) (sender_found r.offset r.n (sender_fields (drop 2 bytes)))
+    (cond (eqb (number16 bytes 0) mark_ed) (end_found r.offset r.k r.heard.0 (length (drop 2 bytes)))
     (Fault (StrangeMark r.offset)))))))
 
 -- the state after one record more

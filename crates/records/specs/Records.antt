@@ -2,7 +2,7 @@
 -- Assumes nothing.
 use Rattle.std.specs.Prelude.{ℕ, ◌≤◌, ◌<◌, ◌≡◌, cond, List, [], ◌∷◌, ◌++◌, length, ltb}
 use Rattle.limits.specs.Limits.{min_weight, max_weight}
-use Rattle.limits.specs.Marks.{mark_hD, mark_lK, mark_bK, mark_sT, mark_sR, mark_eD}
+use Rattle.limits.specs.Marks.{mark_hd, mark_lk, mark_bk, mark_st, mark_sr, mark_ed}
 use Rattle.lists.specs.Joined.{joined}
 use Rattle.number_fields.specs.Fields.{number8, number16, number32, bytes16, bytes32}
 use Rattle.records.specs.declared.fields.HeadFields.{HeadFields}
@@ -42,16 +42,16 @@ sender_fields bytes = cond (ltb (length bytes) 2) NoSender (SenderOf (number16 b
 
 -- the bytes of the head, of a record and of the end
 abbrev pub head_bytes : ℕ → ℕ → List ℕ
-head_bytes n k = bytes16 mark_hD ++ bytes16 n ++ (k ∷ [])
+head_bytes n k = bytes16 mark_hd ++ bytes16 n ++ (k ∷ [])
 
 abbrev pub record_bytes : Record → List ℕ
-record_bytes (OneWay start end weight) = bytes16 mark_lK ++ bytes16 start ++ bytes16 end ++ bytes32 weight
-record_bytes (BothWays start end weight) = bytes16 mark_bK ++ bytes16 start ++ bytes16 end ++ bytes32 weight
-record_bytes (Landing terminal node) = bytes16 mark_sT ++ (terminal ∷ []) ++ bytes16 node
-record_bytes (Sender node) = bytes16 mark_sR ++ bytes16 node
+record_bytes (OneWay start end weight) = bytes16 mark_lk ++ bytes16 start ++ bytes16 end ++ bytes32 weight
+record_bytes (BothWays start end weight) = bytes16 mark_bk ++ bytes16 start ++ bytes16 end ++ bytes32 weight
+record_bytes (Landing terminal node) = bytes16 mark_st ++ (terminal ∷ []) ++ bytes16 node
+record_bytes (Sender node) = bytes16 mark_sr ++ bytes16 node
 
 abbrev pub end_bytes : List ℕ
-end_bytes = bytes16 mark_eD
+end_bytes = bytes16 mark_ed
 
 -- how many bytes the head and a record take
 abbrev pub head_size : ℕ

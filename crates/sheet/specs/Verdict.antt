@@ -3,7 +3,7 @@
 -- Assumes nothing.
 use Rattle.std.specs.Prelude.{ℕ, zero, suc, ◌+◌, cond, not, List, [], ◌∷◌, ◌++◌, length, drop, ltb, eqb}
 use Rattle.limits.specs.Limits.{min_nodes, max_nodes, min_terminals, max_terminals}
-use Rattle.limits.specs.Marks.{mark_hD}
+use Rattle.limits.specs.Marks.{mark_hd}
 use Rattle.answer.specs.declared.SheetFault.{SheetFault}
 use Rattle.answer.specs.declared.SheetFault.TheVariants.{ShortSheet, StrangeMark, BadHead}
 use Rattle.number_fields.specs.Fields.{number16}
@@ -48,7 +48,7 @@ head_found (Head n k) = head_tests n k
 abbrev pub opening_of : List ℕ → Opening
 opening_of sheet =
     cond (ltb (length sheet) 2) (NotOpened (ShortSheet 0))
-    (cond (not (eqb (number16 sheet 0) mark_hD)) (NotOpened (StrangeMark 0))
+    (cond (not (eqb (number16 sheet 0) mark_hd)) (NotOpened (StrangeMark 0))
     (head_found (head_fields (drop 2 sheet))))
 
 -- ---- record after record

@@ -3,7 +3,7 @@
 use Rattle.std.specs.Prelude.{ℕ, ◌≡◌, cond, eqb}
 use Rattle.std.proofs.Math.Path.{refl}
 use Rattle.std.proofs.Common.{sym, ap, ◌∙◌, arith}
-use Rattle.limits.specs.Refusals.{short_sheet, strange_mark, bad_head, no_such_site, no_such_station, loop, bad_price, too_many_legs, after_the_end, unheard, short_tables, no_plan, short_buffer, cut_plan, bad_plan, unknown_number, no_tree, station_missed, false_total, not_aSender}
+use Rattle.limits.specs.Refusals.{short_sheet, strange_mark, bad_head, no_such_site, no_such_station, loop, bad_price, too_many_legs, after_the_end, unheard, short_tables, no_plan, short_buffer, cut_plan, bad_plan, unknown_number, no_tree, station_missed, false_total, not_a_sender}
 use Rattle.answer.specs.declared.SheetFault.TheVariants.{ShortSheet, StrangeMark, BadHead, NoSuchSite, NoSuchStation, Loop, BadPrice, TooManyLegs, AfterTheEnd, Unheard}
 use Rattle.answer.specs.declared.TableFault.TheVariants.{ShortTables, ShortBuffer}
 use Rattle.answer.specs.declared.SearchFault.TheVariants.{NoPlan}
@@ -96,7 +96,7 @@ refusal_stated (PlanFile (UnknownNumber place)) = (unknown_number, place, refl)
 refusal_stated (PlanFile NoTree) = (no_tree, 0, refl)
 refusal_stated (PlanFile StationMissed) = (station_missed, 0, refl)
 refusal_stated (PlanFile FalseTotal) = (false_total, 0, refl)
-refusal_stated (PlanFile NotASender) = (not_aSender, 0, refl)
+refusal_stated (PlanFile NotASender) = (not_a_sender, 0, refl)
 
 -- any refusal, for the cases that do not arise
 any_refusal : Refusal

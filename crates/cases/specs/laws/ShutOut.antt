@@ -6,7 +6,7 @@
 use Rattle.std.specs.Prelude.{ℕ, ◌+◌, ◌*◌, ◌≤◌, ◌<◌, ◌≡◌, refl, ◌≢◌, Bool, List, [], ◌∷◌, T, ltb, length, take, drop}
 use Rattle.std.proofs.Common.{sym, ap, ap₂, ◌∙◌, arith, ltb→lt, take_at}
 use Rattle.std.proofs.Math.Option.{some}
-use Rattle.limits.specs.Marks.{mark_pN}
+use Rattle.limits.specs.Marks.{mark_pn}
 use Rattle.limits.specs.Refusals.{no_plan}
 use Rattle.lists.specs.Find.{all_of, all_entries}
 use Rattle.lists.specs.Listed.{listed_every}
@@ -118,7 +118,7 @@ encodes_B = record {
 
 -- what stands at the start of a buffer
 pub record Stands (buffer : List ℕ) (root cost count : ℕ) : Type 0 where
-  pub mark : number16 buffer 0 ≡ mark_pN
+  pub mark : number16 buffer 0 ≡ mark_pn
   pub root_is : root_in buffer ≡ root
   pub total_is : total_in buffer ≡ cost
   pub count_is : count_in buffer ≡ count
@@ -218,7 +218,7 @@ module _ (engine : Engine) (read : Reader) where
 
   -- so also every buffer that does not start with the mark `PN`
   pub unmarked_shut_out : EnginePointTwo engine read → (sheet : List ℕ) → Bytes sheet → (t : EngineTables) (root cost count : ℕ)
-      → (engine sheet t).answer ≡ plan root cost count → (engine sheet t).after.buffer ≡ t.buffer → number16 t.buffer 0 ≢ mark_pN → ⊥
+      → (engine sheet t).answer ≡ plan root cost count → (engine sheet t).after.buffer ≡ t.buffer → number16 t.buffer 0 ≢ mark_pn → ⊥
   unmarked_shut_out point sheet bytes t root cost count told untouched other =
       let s = plan_stands read sheet t (engine sheet t).after (engine sheet t).answer (point sheet bytes t) root cost count told in
       other (ap (λ (l : List ℕ). number16 l 0) (sym untouched) ∙ s.mark)

@@ -5,7 +5,7 @@ use Rattle.std.proofs.Math.Path.{refl, ap}
 use Rattle.std.proofs.Common.{sym, ◌∙◌, subst, arith, le-ltb, eq-eqb, ltb-false, leb-false, eqb-true}
 use Rattle.std.proofs.Math.Option.{Option, none, some}
 use Rattle.std.proofs.lemmas.Bool.{lt-leb, not-false}
-use Rattle.limits.specs.Marks.{mark_pN, mark_lG}
+use Rattle.limits.specs.Marks.{mark_pn, mark_lg}
 use Rattle.lists.specs.Find.{first, first_says, first_found, first_none}
 use Rattle.lists.specs.Listed.{listed, value_of}
 use Rattle.lists.specs.Numbers.{numbers, listed_number}
@@ -34,7 +34,7 @@ test_passes b f later e n = ap (λ (x : Bool). cond x (some f) later) e ∙ n
 
 pub record HeadOk (n : ℕ) (file : List ℕ) : Type 0 where
   pub whole : file_size 0 ≤ length file
-  pub mark : number16 file 0 ≡ mark_pN
+  pub mark : number16 file 0 ≡ mark_pn
   pub root : root_in file < n
   pub size : length file ≡ file_size (count_in file)
 
@@ -42,7 +42,7 @@ module _ (n : ℕ) (file : List ℕ) where
   pub head_passes : HeadOk n file → head_fault n file ≡ none
   head_passes ok =
       test_passes (ltb (length file) (file_size 0)) CutPlan _ (le-ltb _ _ ok.whole)
-      (test_passes (not (eqb (number16 file 0) mark_pN)) (BadPlan 0) _ (ap not (eq-eqb _ _ ok.mark))
+      (test_passes (not (eqb (number16 file 0) mark_pn)) (BadPlan 0) _ (ap not (eq-eqb _ _ ok.mark))
       (test_passes (leb n (root_in file)) (UnknownNumber 0) _ (lt-leb _ _ ok.root)
       (test_passes (ltb (length file) (file_size (count_in file))) CutPlan _ (le-ltb (length file) (file_size (count_in file)) (omega (arith, ok.size)))
       (test_passes (ltb (file_size (count_in file)) (length file)) (BadPlan (file_size (count_in file))) none
@@ -52,7 +52,7 @@ module _ (n : ℕ) (file : List ℕ) where
   pub head_passed : head_fault n file ≡ none → HeadOk n file
   head_passed e =
       let (long, e1) = test_passed (ltb (length file) (file_size 0)) _ _ e in
-      let (mark, e2) = test_passed (not (eqb (number16 file 0) mark_pN)) _ _ e1 in
+      let (mark, e2) = test_passed (not (eqb (number16 file 0) mark_pn)) _ _ e1 in
       let (root, e3) = test_passed (leb n (root_in file)) _ _ e2 in
       let (short, e4) = test_passed (ltb (length file) (file_size (count_in file))) _ _ e3 in
       let (left, _) = test_passed (ltb (file_size (count_in file)) (length file)) _ _ e4 in
@@ -67,7 +67,7 @@ module _ (n : ℕ) (file : List ℕ) where
 
 -- record i has the mark `LG` and a leg that is on the sheet
 pub record ArcOk (m : ℕ) (file : List ℕ) (i : ℕ) : Type 0 where
-  pub mark : mark_at file i ≡ mark_lG
+  pub mark : mark_at file i ≡ mark_lg
   pub arc : listed_arc file i < m
 
 module _ (m : ℕ) (file : List ℕ) where
@@ -76,7 +76,7 @@ module _ (m : ℕ) (file : List ℕ) where
 
   pub arc_passed : (i : ℕ) → arc_fault m file i ≡ none → ArcOk m file i
   arc_passed i e =
-      let (mark, e1) = test_passed (not (eqb (mark_at file i) mark_lG)) _ _ e in
+      let (mark, e1) = test_passed (not (eqb (mark_at file i) mark_lg)) _ _ e in
       let (arc, _) = test_passed (leb m (listed_arc file i)) _ _ e1 in
       record { mark = eqb-true _ _ (not-false _ mark); arc = leb-false _ _ arc }
 

@@ -5,7 +5,7 @@ use Rattle.std.specs.Prelude.{ℕ, ◌+◌, ◌-◌, ◌≤◌, ◌≡◌, refl,
 use Rattle.std.proofs.Common.{sym, ap, ◌∙◌, append_assoc, add-zero, arith, length-append, length-drop, eq-eqb, ne_eqb}
 use Rattle.std.proofs.Math.Seq.{drop-append-add}
 use Rattle.limits.specs.Limits.{max_nodes}
-use Rattle.limits.specs.Marks.{mark_bK, mark_sT, mark_sR}
+use Rattle.limits.specs.Marks.{mark_bk, mark_st, mark_sr}
 use Rattle.lists.specs.Joined.{joined_append}
 use Rattle.lists.specs.Rest.{take_rest}
 use Rattle.number_fields.specs.Fields.{number16, bytes16, bytes32}
@@ -20,8 +20,8 @@ use Rattle.records.specs.declared.record.Record.TheVariants.{OneWay, BothWays, L
 -- the bytes are as long as the record whose mark they begin with: 4 bytes for `SR`, 5 for `ST`, 10 for any other
 pub record WholeRecord (bytes : List ℕ) : Type 0 where
   pub sender : 4 ≤ length bytes
-  pub landing : number16 bytes 0 ≢ mark_sR → 5 ≤ length bytes
-  pub link : number16 bytes 0 ≢ mark_sR → number16 bytes 0 ≢ mark_sT → 10 ≤ length bytes
+  pub landing : number16 bytes 0 ≢ mark_sr → 5 ≤ length bytes
+  pub link : number16 bytes 0 ≢ mark_sr → number16 bytes 0 ≢ mark_st → 10 ≤ length bytes
 
 -- a link: `BK`, else `LK`
 abbrev pub other_record : Bool → List ℕ → Record
@@ -32,37 +32,37 @@ other_record both bytes =
 -- the record by the mark: `SR`, `ST`, and a link for any other
 abbrev pub first_record : List ℕ → Record
 first_record bytes =
-    cond (eqb (number16 bytes 0) mark_sR) (Sender (number16 (drop 2 bytes) 0))
-    (cond (eqb (number16 bytes 0) mark_sT) (Landing (landing_in (drop 2 bytes)).terminal (landing_in (drop 2 bytes)).node)
-    (other_record (eqb (number16 bytes 0) mark_bK) bytes))
+    cond (eqb (number16 bytes 0) mark_sr) (Sender (number16 (drop 2 bytes) 0))
+    (cond (eqb (number16 bytes 0) mark_st) (Landing (landing_in (drop 2 bytes)).terminal (landing_in (drop 2 bytes)).node)
+    (other_record (eqb (number16 bytes 0) mark_bk) bytes))
 
 -- as code reads it: the mark, and the fields from the part after it
 module _ (bytes : List ℕ) (mark : ℕ) (is : mark ≡ number16 bytes 0) where
-  by_marks : (a b c : Bool) → eqb mark mark_sR ≡ a → eqb mark mark_sT ≡ b → eqb mark mark_bK ≡ c
+  by_marks : (a b c : Bool) → eqb mark mark_sr ≡ a → eqb mark mark_st ≡ b → eqb mark mark_bk ≡ c
       → cond a (Sender (number16 (drop 2 bytes) 0))
       (cond b (Landing (landing_in (drop 2 bytes)).terminal (landing_in (drop 2 bytes)).node) (other_record c bytes))
       ≡ first_record bytes
   by_marks a b c e f g = rw (← is, e, f, g)
 
-  pub first_sender : (v : ℕ) → v ≡ number16 (take (length bytes - 2) (drop 2 bytes)) 0 → mark ≡ mark_sR → Sender v ≡ first_record bytes
+  pub first_sender : (v : ℕ) → v ≡ number16 (take (length bytes - 2) (drop 2 bytes)) 0 → mark ≡ mark_sr → Sender v ≡ first_record bytes
   first_sender v read sr =
       ap Sender (read ∙ ap (λ (l : List ℕ). number16 l 0) (take_rest 2 bytes))
-      ∙ by_marks true (eqb mark mark_sT) (eqb mark mark_bK) (eq-eqb mark mark_sR sr) refl refl
+      ∙ by_marks true (eqb mark mark_st) (eqb mark mark_bk) (eq-eqb mark mark_sr sr) refl refl
 
-  module _ (unlicensed : mark ≢ mark_sR) where
+  module _ (unlicensed : mark ≢ mark_sr) where
     -- the part after the mark has the fields of a landing
     pub landing_whole : WholeRecord bytes → 3 ≤ length (take (length bytes - 2) (drop 2 bytes))
     landing_whole whole =
         let long = whole.landing (λ e. unlicensed (is ∙ e)) in
         omega (arith, ap length (take_rest 2 bytes), length-drop 2 bytes)
 
-    pub first_landing : (l : LandingAt) → l ≡ landing_in (take (length bytes - 2) (drop 2 bytes)) → mark ≡ mark_sT
+    pub first_landing : (l : LandingAt) → l ≡ landing_in (take (length bytes - 2) (drop 2 bytes)) → mark ≡ mark_st
         → Landing l.terminal l.node ≡ first_record bytes
     first_landing l read st =
         ap (λ (x : LandingAt). Landing x.terminal x.node) (read ∙ ap landing_in (take_rest 2 bytes))
-        ∙ by_marks false true (eqb mark mark_bK) (ne_eqb mark mark_sR unlicensed) (eq-eqb mark mark_sT st) refl
+        ∙ by_marks false true (eqb mark mark_bk) (ne_eqb mark mark_sr unlicensed) (eq-eqb mark mark_st st) refl
 
-    module _ (other : mark ≢ mark_sT) where
+    module _ (other : mark ≢ mark_st) where
       -- the part after the mark has the fields of a link
       pub link_whole : WholeRecord bytes → 8 ≤ length (take (length bytes - 2) (drop 2 bytes))
       link_whole whole =
@@ -70,15 +70,15 @@ module _ (bytes : List ℕ) (mark : ℕ) (is : mark ≡ number16 bytes 0) where
           omega (arith, ap length (take_rest 2 bytes), length-drop 2 bytes)
 
       module _ (l : Link) (read : l ≡ link_in (take (length bytes - 2) (drop 2 bytes))) where
-        pub first_both : mark ≡ mark_bK → BothWays l.start l.end l.weight ≡ first_record bytes
+        pub first_both : mark ≡ mark_bk → BothWays l.start l.end l.weight ≡ first_record bytes
         first_both bk =
             ap (λ (x : Link). BothWays x.start x.end x.weight) (read ∙ ap link_in (take_rest 2 bytes))
-            ∙ by_marks false false true (ne_eqb mark mark_sR unlicensed) (ne_eqb mark mark_sT other) (eq-eqb mark mark_bK bk)
+            ∙ by_marks false false true (ne_eqb mark mark_sr unlicensed) (ne_eqb mark mark_st other) (eq-eqb mark mark_bk bk)
 
-        pub first_one : mark ≢ mark_bK → OneWay l.start l.end l.weight ≡ first_record bytes
+        pub first_one : mark ≢ mark_bk → OneWay l.start l.end l.weight ≡ first_record bytes
         first_one lk =
             ap (λ (x : Link). OneWay x.start x.end x.weight) (read ∙ ap link_in (take_rest 2 bytes))
-            ∙ by_marks false false false (ne_eqb mark mark_sR unlicensed) (ne_eqb mark mark_sT other) (ne_eqb mark mark_bK lk)
+            ∙ by_marks false false false (ne_eqb mark mark_sr unlicensed) (ne_eqb mark mark_st other) (ne_eqb mark mark_bk lk)
 
 -- ---- bytes that begin with a record
 

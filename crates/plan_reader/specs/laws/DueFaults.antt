@@ -6,7 +6,7 @@ use Rattle.std.proofs.Math.Path.{refl, ap}
 use Rattle.std.proofs.Common.{◌∙◌, subst, arith, ltb-true, ltb-false, leb-true, leb-false, eqb-true, lt-ltb, le-ltb, le-leb, eq-eqb, ne_eqb}
 use Rattle.std.proofs.Math.Option.{Option, none, some}
 use Rattle.std.proofs.lemmas.Bool.{eqb-false, not-true, not-false, lt-leb}
-use Rattle.limits.specs.Marks.{mark_pN, mark_lG}
+use Rattle.limits.specs.Marks.{mark_pn, mark_lg}
 use Rattle.lists.specs.Every.{Every}
 use Rattle.lists.specs.Find.{first, first_says}
 use Rattle.lists.specs.Listed.{listed_every}
@@ -88,8 +88,8 @@ module _ (G : Graph) (file : List ℕ) where
   head_due f e =
       by_fault Due (ltb (length file) (file_size 0)) CutPlan f _ e (λ t. under_head (ltb-true _ _ t)) (λ a e1.
       let whole = ltb-false (length file) (file_size 0) a in
-      by_fault Due (not (eqb (number16 file 0) mark_pN)) (BadPlan 0) f _ e1 (λ t. no_mark whole (eqb-false _ _ (not-true _ t))) (λ b e2.
-      let mark = eqb-true (number16 file 0) mark_pN (not-false _ b) in
+      by_fault Due (not (eqb (number16 file 0) mark_pn)) (BadPlan 0) f _ e1 (λ t. no_mark whole (eqb-false _ _ (not-true _ t))) (λ b e2.
+      let mark = eqb-true (number16 file 0) mark_pn (not-false _ b) in
       by_fault Due (leb G.nodes (root_in file)) (UnknownNumber 0) f _ e2 (λ t. no_root whole mark (leb-true _ _ t)) (λ c e3.
       let head : HeadRead G file = record { whole = whole; mark = mark; root = leb-false _ _ c } in
       by_fault Due (ltb (length file) (file_size (count_in file))) CutPlan f _ e3 (λ t. short head (ltb-true _ _ t)) (λ d e4.
@@ -98,7 +98,7 @@ module _ (G : Graph) (file : List ℕ) where
 
   arc_due : Sized G file → (i : ℕ) → i < count_in file → PassBefore G file i → (f : PlanFault) → arc_fault G.arcs file i ≡ some f → Due f
   arc_due sized i l before f e =
-      by_fault Due (not (eqb (mark_at file i) mark_lG)) (BadPlan (file_size i)) f _ e
+      by_fault Due (not (eqb (mark_at file i) mark_lg)) (BadPlan (file_size i)) f _ e
       (λ t. no_arc_mark sized i l before (eqb-false _ _ (not-true _ t))) (λ a e1.
       by_fault Due (leb G.arcs (listed_arc file i)) (UnknownNumber (file_size i)) f none e1
       (λ t. no_arc sized i l before (eqb-true _ _ (not-false _ a)) (leb-true _ _ t)) (λ _ e2. some_fault e2 refl))
@@ -204,7 +204,7 @@ module _ (G : Graph) (file : List ℕ) where
   -- the tests before those of the length
   read_on : HeadRead G file → (later o : Option PlanFault) → later ≡ o
       → cond (ltb (length file) (file_size 0)) (some CutPlan)
-      (cond (not (eqb (number16 file 0) mark_pN)) (some (BadPlan 0)) (cond (leb G.nodes (root_in file)) (some (UnknownNumber 0)) later))
+      (cond (not (eqb (number16 file 0) mark_pn)) (some (BadPlan 0)) (cond (leb G.nodes (root_in file)) (some (UnknownNumber 0)) later))
       ≡ o
   read_on h later o e =
       skips _ CutPlan _ o (le-ltb _ _ h.whole)

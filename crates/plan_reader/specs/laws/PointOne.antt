@@ -4,8 +4,8 @@ use Rattle.std.specs.Prelude.{ℕ, ◌≤◌, ◌<◌, ◌≡◌, refl, Bool, tr
 use Rattle.std.proofs.Common.{sym, ap, ◌∙◌, subst, inl, inr, arith}
 use Rattle.std.proofs.Math.Option.{Option, none, some}
 use Rattle.std.proofs.Math.Decide.{ℕ_discrete}
-use Rattle.limits.specs.Marks.{mark_pN, mark_lG}
-use Rattle.limits.specs.Refusals.{short_tables, cut_plan, unknown_number, no_tree, not_aSender}
+use Rattle.limits.specs.Marks.{mark_pn, mark_lg}
+use Rattle.limits.specs.Refusals.{short_tables, cut_plan, unknown_number, no_tree, not_a_sender}
 use Rattle.lists.specs.Find.{first}
 use Rattle.lists.specs.Over.{length_over}
 use Rattle.subset.specs.Sets.{full}
@@ -74,7 +74,7 @@ own_numbers n m file = first_or_later cut_plan unknown_number (head_fault n file
     head : Numbered cut_plan unknown_number (head_fault n file)
     head =
         either cut_plan unknown_number (ltb (length file) (file_size 0)) (some CutPlan) _ (omega arith, omega arith)
-        (either cut_plan unknown_number (not (eqb (number16 file 0) mark_pN)) (some (BadPlan 0)) _ (omega arith, omega arith)
+        (either cut_plan unknown_number (not (eqb (number16 file 0) mark_pn)) (some (BadPlan 0)) _ (omega arith, omega arith)
         (either cut_plan unknown_number (leb n (root_in file)) (some (UnknownNumber 0)) _ (omega arith, omega arith)
         (either cut_plan unknown_number (ltb (length file) (file_size (count_in file))) (some CutPlan) _ (omega arith, omega arith)
         (either cut_plan unknown_number (ltb (file_size (count_in file)) (length file)) (some (BadPlan (file_size (count_in file)))) none
@@ -82,21 +82,21 @@ own_numbers n m file = first_or_later cut_plan unknown_number (head_fault n file
 
     at : (i : ℕ) → Numbered cut_plan unknown_number (arc_fault m file i)
     at i =
-        either cut_plan unknown_number (not (eqb (mark_at file i) mark_lG)) (some (BadPlan (file_size i))) _ (omega arith, omega arith)
+        either cut_plan unknown_number (not (eqb (mark_at file i) mark_lg)) (some (BadPlan (file_size i))) _ (omega arith, omega arith)
         (either cut_plan unknown_number (leb m (listed_arc file i)) (some (UnknownNumber (file_size i))) none (omega arith, omega arith) tt)
 
     records : Numbered cut_plan unknown_number (arcs_fault m file)
     records = fault_at_lem cut_plan unknown_number (arc_fault m file) at (first (λ i. is_fault (arc_fault m file i)) (count_in file))
 
 -- those against the sheet: 17 to 20
-failed_numbers : (tree may_root_lem held sum : Bool) → Numbered no_tree not_aSender (first_failed tree may_root_lem held sum)
+failed_numbers : (tree may_root_lem held sum : Bool) → Numbered no_tree not_a_sender (first_failed tree may_root_lem held sum)
 failed_numbers tree may_root_lem held sum =
-    either no_tree not_aSender (not tree) (some NoTree) _ (omega arith, omega arith)
-    (either no_tree not_aSender (not may_root_lem) (some NotASender) _ (omega arith, omega arith)
-    (either no_tree not_aSender (not held) (some StationMissed) _ (omega arith, omega arith)
-    (either no_tree not_aSender (not sum) (some FalseTotal) none (omega arith, omega arith) tt)))
+    either no_tree not_a_sender (not tree) (some NoTree) _ (omega arith, omega arith)
+    (either no_tree not_a_sender (not may_root_lem) (some NotASender) _ (omega arith, omega arith)
+    (either no_tree not_a_sender (not held) (some StationMissed) _ (omega arith, omega arith)
+    (either no_tree not_a_sender (not sum) (some FalseTotal) none (omega arith, omega arith) tt)))
 
-against_numbers : (G : Graph) (file : List ℕ) → Numbered no_tree not_aSender (tree_fault G file)
+against_numbers : (G : Graph) (file : List ℕ) → Numbered no_tree not_a_sender (tree_fault G file)
 unfolding tree_fault
 against_numbers G file =
     let L : List ℕ = arcs_in file in
@@ -191,7 +191,7 @@ module _ (sheet file : List ℕ) (t : ReaderTables) where
       }
 
       -- 17 to 20
-      against_safe : (fault : PlanFault) → Numbered no_tree not_aSender (some fault) → Safe (run (stated_plan_file fault) (filled_with n k records file t (reached_marks n k records file t)))
+      against_safe : (fault : PlanFault) → Numbered no_tree not_a_sender (some fault) → Safe (run (stated_plan_file fault) (filled_with n k records file t (reached_marks n k records file t)))
       against_safe fault bounds = record {
         answers = file_refusal fault;
         early = λ family number place q small. absurd (omega (arith, ap number_in q, bounds));
@@ -220,7 +220,7 @@ module _ (sheet file : List ℕ) (t : ReaderTables) where
             (own_safe fault (subst (Numbered cut_plan unknown_number) a (own_numbers n (length (arcs records)) file)))
         go none a (some fault) b =
             subst Safe (sym (plan_refused n k records file t fault a b))
-            (against_safe a fault (subst (Numbered no_tree not_aSender) b (against_numbers (graph_of n k records) file)))
+            (against_safe a fault (subst (Numbered no_tree not_a_sender) b (against_numbers (graph_of n k records) file)))
         go none a none b = subst Safe (sym (plan_accepted n k records file t a b)) (accepted_safe a _ _ _)
 
 -- ---- every run

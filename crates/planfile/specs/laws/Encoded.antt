@@ -4,7 +4,7 @@
 use Rattle.std.specs.Prelude.{ℕ, ◌+◌, ◌≤◌, ◌<◌, ◌^◌, ◌≡◌, refl, List, ◌++◌, length, get_or}
 use Rattle.std.proofs.Common.{sym, ap, ◌∙◌, subst, append-nil, arith, drop_of_length-le}
 use Rattle.std.proofs.Math.Option.{some}
-use Rattle.limits.specs.Marks.{mark_pN, mark_lG}
+use Rattle.limits.specs.Marks.{mark_pn, mark_lg}
 use Rattle.lists.specs.Every.{at_every}
 use Rattle.lists.specs.Joined.{joined}
 use Rattle.lists.specs.Numbers.{length_values, get_d_values}
@@ -16,8 +16,8 @@ use Rattle.planfile.specs.laws.FormatLaws.{Fits, fits_encoding, encoding_fits, l
 -- the length and the marks are right
 pub record WellFormed (file : List ℕ) : Type 0 where
   pub size : length file ≡ file_size (count_in file)
-  pub head_mark : number16 file 0 ≡ mark_pN
-  pub marks : (i : ℕ) → i < count_in file → mark_at file i ≡ mark_lG
+  pub head_mark : number16 file 0 ≡ mark_pn
+  pub marks : (i : ℕ) → i < count_in file → mark_at file i ≡ mark_lg
 
 -- a well_formed byte string is the encoding of its fields
 pub fields_encoding : (file : List ℕ) → Bytes file → WellFormed file → encoding (root_in file) (total_in file) (arcs_in file) ≡ some file

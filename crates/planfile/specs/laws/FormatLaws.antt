@@ -6,7 +6,7 @@ use Rattle.std.proofs.Common.{sym, ap, ap₂, ◌∙◌, append-nil, add-zero, z
 use Rattle.std.proofs.Math.Option.{none, some}
 use Rattle.std.proofs.Math.ListN.{get_or-append}
 use Rattle.std.proofs.Math.Seq.{drop-append-add}
-use Rattle.limits.specs.Marks.{mark_pN, mark_lG}
+use Rattle.limits.specs.Marks.{mark_pn, mark_lg}
 use Rattle.lists.specs.Tests.{fact_true, and_left, and_right, and_both, choice_some}
 use Rattle.lists.specs.Every.{Every, every_append, every_at}
 use Rattle.lists.specs.Listed.{every_listed, listed_every}
@@ -96,7 +96,7 @@ module _ (root total : ℕ) (arcs : List ℕ) where
       drop-append-add (head_bytes root total (length arcs)) (joined arc_bytes arcs) (4 * i) ∙ drop_joined arc_bytes 4 (λ e. refl) arcs i 0 h
 
   -- its mark and its leg number
-  pub mark_is : (i : ℕ) → i < length arcs → mark_at file i ≡ mark_lG
+  pub mark_is : (i : ℕ) → i < length arcs → mark_at file i ≡ mark_lg
   mark_is i h =
       ap (number16 file) (sym (add-zero (file_size i))) ∙ sym (number16_drop (file_size i) 0 file) ∙ ap (λ (l : List ℕ). number16 l 0) (record_at i h)
 
@@ -131,11 +131,11 @@ module _ (root total : ℕ) (arcs : List ℕ) where
 
 module _ (file : List ℕ) (bytes : Bytes file) where
   -- the head
-  pub head_stands : file_size 0 ≤ length file → number16 file 0 ≡ mark_pN
+  pub head_stands : file_size 0 ≤ length file → number16 file 0 ≡ mark_pn
       → file ≡ head_bytes (root_in file) (total_in file) (count_in file) ++ drop (file_size 0) file
   head_stands h mark =
-      field16 file bytes 0 mark_pN (omega arith) mark
-      ∙ ap (λ (l : List ℕ). bytes16 mark_pN ++ l)
+      field16 file bytes 0 mark_pn (omega arith) mark
+      ∙ ap (λ (l : List ℕ). bytes16 mark_pn ++ l)
       (field16 file bytes 2 (root_in file) (omega arith) refl
       ∙ ap (λ (l : List ℕ). bytes16 (root_in file) ++ l)
       (field32 file bytes 4 (total_in file) (omega arith) refl
@@ -143,16 +143,16 @@ module _ (file : List ℕ) (bytes : Bytes file) where
       (field16 file bytes 8 (count_in file) (omega arith) refl)))
 
   -- record i
-  record_stands : (i : ℕ) → file_size (suc i) ≤ length file → mark_at file i ≡ mark_lG
+  record_stands : (i : ℕ) → file_size (suc i) ≤ length file → mark_at file i ≡ mark_lg
       → drop (file_size i) file ≡ arc_bytes (listed_arc file i) ++ drop (file_size (suc i)) file
   record_stands i h mark =
       let e : file_size i + 2 + 2 ≡ file_size (suc i) = omega arith in
-      field16 file bytes (file_size i) mark_lG (omega arith) mark
-      ∙ ap (λ (l : List ℕ). bytes16 mark_lG ++ l) (field16 file bytes (file_size i + 2) (listed_arc file i) (omega arith) refl)
+      field16 file bytes (file_size i) mark_lg (omega arith) mark
+      ∙ ap (λ (l : List ℕ). bytes16 mark_lg ++ l) (field16 file bytes (file_size i + 2) (listed_arc file i) (omega arith) refl)
       ∙ ap (λ (j : ℕ). arc_bytes (listed_arc file i) ++ drop j file) e
 
   -- m records from record i on, up to record j
-  pub records_stand : (i m j : ℕ) → i + m ≡ j → file_size j ≤ length file → ((k : ℕ) → k < j → mark_at file k ≡ mark_lG)
+  pub records_stand : (i m j : ℕ) → i + m ≡ j → file_size j ≤ length file → ((k : ℕ) → k < j → mark_at file k ≡ mark_lg)
       → drop (file_size i) file ≡ joined arc_bytes (map (listed_arc file) (numbers i m)) ++ drop (file_size j) file
   records_stand i zero j e h marks = ap (λ (k : ℕ). drop (file_size k) file) (sym (add-zero i) ∙ e)
   records_stand i (suc m) j e h marks =

@@ -3,7 +3,7 @@
 use Rattle.std.specs.Prelude.{ℕ, ◌≡◌, List, length, ltb, eqb}
 use Rattle.std.proofs.Math.Path.{subst}
 use Rattle.std.proofs.Common.{ltb-false, eqb-true}
-use Rattle.limits.specs.Marks.{mark_lK, mark_bK, mark_sT, mark_sR, mark_eD}
+use Rattle.limits.specs.Marks.{mark_lk, mark_bk, mark_st, mark_sr, mark_ed}
 use Rattle.number_fields.specs.Fields.{number16}
 use Rattle.record_tests.specs.laws.Passed.{Passed, ReadFrom, EndOk, Known, cond_both, fault_known, test, one_way_known, both_ways_known, landing_known, sender_known, mark_end_known}
 use Rattle.reading.specs.Steps.{found_in}
@@ -23,11 +23,11 @@ module _ (r : Reading) (bytes : List ℕ) where
       let P = Known n k legs heard bytes in
       test at n k legs heard bytes (ltb (length bytes) 2) _ _ (λ short.
       let two = ltb-false (length bytes) 2 short in
-      cond_both P (eqb mark mark_lK) _ _ (λ e. one_way_known at n k legs heard bytes two (eqb-true mark mark_lK e)) (λ _.
-      cond_both P (eqb mark mark_bK) _ _ (λ e. both_ways_known at n k legs heard bytes two (eqb-true mark mark_bK e)) (λ _.
-      cond_both P (eqb mark mark_sT) _ _ (λ e. landing_known at n k legs heard bytes two (eqb-true mark mark_sT e)) (λ _.
-      cond_both P (eqb mark mark_sR) _ _ (λ e. sender_known at n k legs heard bytes two (eqb-true mark mark_sR e)) (λ _.
-      cond_both P (eqb mark mark_eD) _ _ (λ e. mark_end_known at n k legs heard bytes two (eqb-true mark mark_eD e)) (λ _.
+      cond_both P (eqb mark mark_lk) _ _ (λ e. one_way_known at n k legs heard bytes two (eqb-true mark mark_lk e)) (λ _.
+      cond_both P (eqb mark mark_bk) _ _ (λ e. both_ways_known at n k legs heard bytes two (eqb-true mark mark_bk e)) (λ _.
+      cond_both P (eqb mark mark_st) _ _ (λ e. landing_known at n k legs heard bytes two (eqb-true mark mark_st e)) (λ _.
+      cond_both P (eqb mark mark_sr) _ _ (λ e. sender_known at n k legs heard bytes two (eqb-true mark mark_sr e)) (λ _.
+      cond_both P (eqb mark mark_ed) _ _ (λ e. mark_end_known at n k legs heard bytes two (eqb-true mark mark_ed e)) (λ _.
       fault_known at n k legs heard bytes _))))))
 
   -- the record passes its tests

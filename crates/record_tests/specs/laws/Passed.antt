@@ -4,7 +4,7 @@ use Rattle.std.specs.Prelude.{ℕ, ◌+◌, ◌≤◌, ◌≡◌, refl, Bool, tr
 use Rattle.std.proofs.Common.{arith, length-drop, ltb-false, leb-false, eqb-true}
 use Rattle.std.proofs.lemmas.Bool.{eqb-false}
 use Rattle.limits.specs.Limits.{max_arcs, min_weight, max_weight}
-use Rattle.limits.specs.Marks.{mark_lK, mark_bK, mark_sT, mark_sR, mark_eD}
+use Rattle.limits.specs.Marks.{mark_lk, mark_bk, mark_st, mark_sr, mark_ed}
 use Rattle.lists.specs.Tests.{by_test}
 use Rattle.answer.specs.declared.SheetFault.{SheetFault}
 use Rattle.subset.specs.Sets.{full}
@@ -39,25 +39,25 @@ pub record LinkRead (bytes : List ℕ) (mark start end weight : ℕ) : Type 0 wh
   pub weight_is : number32 (drop 2 bytes) 4 ≡ weight
 
 pub record LandingRead (bytes : List ℕ) (terminal node : ℕ) : Type 0 where
-  pub mark_is : number16 bytes 0 ≡ mark_sT
+  pub mark_is : number16 bytes 0 ≡ mark_st
   pub terminal_is : number8 (drop 2 bytes) 0 ≡ terminal
   pub node_is : number16 (drop 2 bytes) 1 ≡ node
 
 pub record SenderRead (bytes : List ℕ) (node : ℕ) : Type 0 where
-  pub mark_is : number16 bytes 0 ≡ mark_sR
+  pub mark_is : number16 bytes 0 ≡ mark_sr
   pub node_is : number16 (drop 2 bytes) 0 ≡ node
 
 -- the record is read from the start of the bytes
 abbrev pub ReadFrom : List ℕ → Record → Type 0
-ReadFrom bytes (OneWay start end weight) = LinkRead bytes mark_lK start end weight
-ReadFrom bytes (BothWays start end weight) = LinkRead bytes mark_bK start end weight
+ReadFrom bytes (OneWay start end weight) = LinkRead bytes mark_lk start end weight
+ReadFrom bytes (BothWays start end weight) = LinkRead bytes mark_bk start end weight
 ReadFrom bytes (Landing terminal node) = LandingRead bytes terminal node
 ReadFrom bytes (Sender node) = SenderRead bytes node
 
 -- the bytes are the end of the sheet, and every station has a landing
 pub record EndOk (k heard : ℕ) (bytes : List ℕ) : Type 0 where
   pub last : length bytes ≡ 2
-  pub mark_is : number16 bytes 0 ≡ mark_eD
+  pub mark_is : number16 bytes 0 ≡ mark_ed
   pub all_heard : heard ≡ full k
 
 -- ---- what a test tells
@@ -125,21 +125,21 @@ module _ (at n k legs heard : ℕ) (bytes : List ℕ) where
       (λ _. none)
       (λ e. some _ _ _ (enough bytes 8 e two) (record { mark_is = mark_is; start_is = refl; end_is = refl; weight_is = refl }))
 
-  pub one_way_known : 2 ≤ length bytes → number16 bytes 0 ≡ mark_lK
+  pub one_way_known : 2 ≤ length bytes → number16 bytes 0 ≡ mark_lk
       → Known n k legs heard bytes (one_way_found at n legs (link_fields (drop 2 bytes)))
   one_way_known =
-      fields_known (one_way_found at n legs) mark_lK (fault_known _) (λ start end weight whole read.
+      fields_known (one_way_found at n legs) mark_lk (fault_known _) (λ start end weight whole read.
       let x : Record = OneWay start end weight in
       link_known start end weight x (λ ok few. item_known x (record { ok = ok; few = λ _. few; whole = whole }) read))
 
-  pub both_ways_known : 2 ≤ length bytes → number16 bytes 0 ≡ mark_bK
+  pub both_ways_known : 2 ≤ length bytes → number16 bytes 0 ≡ mark_bk
       → Known n k legs heard bytes (both_ways_found at n legs (link_fields (drop 2 bytes)))
   both_ways_known =
-      fields_known (both_ways_found at n legs) mark_bK (fault_known _) (λ start end weight whole read.
+      fields_known (both_ways_found at n legs) mark_bk (fault_known _) (λ start end weight whole read.
       let x : Record = BothWays start end weight in
       link_known start end weight x (λ ok few. item_known x (record { ok = ok; few = λ _. few; whole = whole }) read))
 
-  pub landing_known : 2 ≤ length bytes → number16 bytes 0 ≡ mark_sT
+  pub landing_known : 2 ≤ length bytes → number16 bytes 0 ≡ mark_st
       → Known n k legs heard bytes (landing_found at n k (landing_fields (drop 2 bytes)))
   landing_known two mark_is =
       let terminal = number8 (drop 2 bytes) 0 in
@@ -154,7 +154,7 @@ module _ (at n k legs heard : ℕ) (bytes : List ℕ) where
       (record { ok = (leb-false k terminal t1, leb-false n node t2); few = λ h. omega arith; whole = enough bytes 3 e two })
       (record { mark_is = mark_is; terminal_is = refl; node_is = refl }))))
 
-  pub sender_known : 2 ≤ length bytes → number16 bytes 0 ≡ mark_sR
+  pub sender_known : 2 ≤ length bytes → number16 bytes 0 ≡ mark_sr
       → Known n k legs heard bytes (sender_found at n (sender_fields (drop 2 bytes)))
   sender_known two mark_is =
       let node = number16 (drop 2 bytes) 0 in
@@ -168,7 +168,7 @@ module _ (at n k legs heard : ℕ) (bytes : List ℕ) where
       (record { mark_is = mark_is; node_is = refl })))
 
   -- the end of the sheet
-  pub mark_end_known : 2 ≤ length bytes → number16 bytes 0 ≡ mark_eD
+  pub mark_end_known : 2 ≤ length bytes → number16 bytes 0 ≡ mark_ed
       → Known n k legs heard bytes (end_found at k heard (length (drop 2 bytes)))
   mark_end_known two mark_is =
       test (ltb 0 (length (drop 2 bytes))) _ _ (λ t1.

@@ -5,7 +5,7 @@ use Rattle.std.proofs.Math.Path.{subst}
 use Rattle.std.proofs.Common.{ltb-false, eqb-true}
 use Rattle.std.proofs.lemmas.Bool.{not-false}
 use Rattle.limits.specs.Limits.{min_nodes, min_terminals, max_nodes, max_terminals}
-use Rattle.limits.specs.Marks.{mark_hD}
+use Rattle.limits.specs.Marks.{mark_hd}
 use Rattle.answer.specs.declared.SheetFault.{SheetFault}
 use Rattle.number_fields.specs.Fields.{number8, number16}
 use Rattle.records.specs.Records.{head_fields, head_size}
@@ -22,7 +22,7 @@ pub record OpenedOk (s : List ℕ) (r : Reading) : Type 0 where
   pub nodes : (min_nodes ≤ r.n) × (r.n ≤ max_nodes)
   pub terminals : (min_terminals ≤ r.k) × (r.k ≤ max_terminals)
   pub whole : head_size ≤ length s
-  pub mark_is : number16 s 0 ≡ mark_hD
+  pub mark_is : number16 s 0 ≡ mark_hd
   pub n_is : number16 (drop 2 s) 0 ≡ r.n
   pub k_is : number8 (drop 2 s) 2 ≡ r.k
 
@@ -43,7 +43,7 @@ module _ (s : List ℕ) where
   head_test : (b : Bool) (f : SheetFault) (y : Opening) → (b ≡ false → OpeningKnown s y) → OpeningKnown s (cond b (NotOpened f) y)
   head_test b f y g = cond_both (OpeningKnown s) b (NotOpened f) y (λ _. not_opened_known f) g
 
-  head_known : 2 ≤ length s → number16 s 0 ≡ mark_hD → OpeningKnown s (head_found (head_fields (drop 2 s)))
+  head_known : 2 ≤ length s → number16 s 0 ≡ mark_hd → OpeningKnown s (head_found (head_fields (drop 2 s)))
   head_known two mark_is =
       let n = number16 (drop 2 s) 0 in
       let k = number8 (drop 2 s) 2 in
@@ -68,8 +68,8 @@ module _ (s : List ℕ) where
   opening_known : OpeningKnown s (opening_of s)
   opening_known =
       head_test (ltb (length s) 2) _ _ (λ short.
-      head_test (not (eqb (number16 s 0) mark_hD)) _ _ (λ e.
-      head_known (ltb-false (length s) 2 short) (eqb-true (number16 s 0) mark_hD (not-false (eqb (number16 s 0) mark_hD) e))))
+      head_test (not (eqb (number16 s 0) mark_hd)) _ _ (λ e.
+      head_known (ltb-false (length s) 2 short) (eqb-true (number16 s 0) mark_hd (not-false (eqb (number16 s 0) mark_hd) e))))
 
   pub opening_opened : (r : Reading) → opening_of s ≡ Opened r → OpenedOk s r
   unfolding OpeningKnown

@@ -4,7 +4,7 @@ use Rattle.std.specs.Prelude.{ℕ, ◌+◌, ◌≤◌, ◌<◌, ◌^◌, ◌≡�
 use Rattle.std.proofs.Common.{ap, ◌∙◌, arith, drop_of_length-le, length-drop, drop-drop, le-ltb, eq-eqb, ne_eqb}
 use Rattle.std.proofs.lemmas.Bool.{lt-leb}
 use Rattle.limits.specs.Limits.{min_nodes, max_nodes, min_terminals, max_terminals, max_arcs, min_weight, max_weight}
-use Rattle.limits.specs.Marks.{mark_hD, mark_lK, mark_bK, mark_sT, mark_sR, mark_eD}
+use Rattle.limits.specs.Marks.{mark_hd, mark_lk, mark_bk, mark_st, mark_sr, mark_ed}
 use Rattle.lists.specs.Every.{every_drop}
 use Rattle.subset.specs.Sets.{full}
 use Rattle.number_fields.specs.Fields.{Bytes, bytes16, bytes32}
@@ -51,30 +51,30 @@ module _ (s : List ℕ) (bytes : Bytes s) where
 
   -- the bytes of any record do
   pub read_bytes : (x : Record) → size x ≤ length s → ReadFrom s x → s ≡ record_bytes x ++ drop (size x) s
-  read_bytes (OneWay start end weight) h read = link_bytes mark_lK start end weight h read
-  read_bytes (BothWays start end weight) h read = link_bytes mark_bK start end weight h read
+  read_bytes (OneWay start end weight) h read = link_bytes mark_lk start end weight h read
+  read_bytes (BothWays start end weight) h read = link_bytes mark_bk start end weight h read
   read_bytes (Landing terminal node) h read =
-      field16 s bytes 0 mark_sT (omega arith) read.mark_is
-      ∙ ap (λ (l : List ℕ). bytes16 mark_sT ++ l)
+      field16 s bytes 0 mark_st (omega arith) read.mark_is
+      ∙ ap (λ (l : List ℕ). bytes16 mark_st ++ l)
       (field8 (drop 2 s) 0 terminal (long 1 (omega arith)) read.terminal_is
       ∙ ap (λ (l : List ℕ). terminal ∷ l)
       (field16 (drop 2 s) after_mark 1 node (long 3 (omega arith)) read.node_is
       ∙ ap (λ (l : List ℕ). bytes16 node ++ l) (drop-drop 3 2 s)))
   read_bytes (Sender node) h read =
-      field16 s bytes 0 mark_sR (omega arith) read.mark_is
-      ∙ ap (λ (l : List ℕ). bytes16 mark_sR ++ l)
+      field16 s bytes 0 mark_sr (omega arith) read.mark_is
+      ∙ ap (λ (l : List ℕ). bytes16 mark_sr ++ l)
       (field16 (drop 2 s) after_mark 0 node (long 2 (omega arith)) read.node_is
       ∙ ap (λ (l : List ℕ). bytes16 node ++ l) (drop-drop 2 2 s))
 
   -- and so do the bytes of the end and of the head
   pub end_bytes_lem : (k heard : ℕ) → EndOk k heard s → s ≡ end_bytes
   end_bytes_lem k heard end =
-      field16 s bytes 0 mark_eD (omega arith) end.mark_is ∙ ap (λ (l : List ℕ). bytes16 mark_eD ++ l) (drop_of_length-le s {i = 2} (omega arith))
+      field16 s bytes 0 mark_ed (omega arith) end.mark_is ∙ ap (λ (l : List ℕ). bytes16 mark_ed ++ l) (drop_of_length-le s {i = 2} (omega arith))
 
   pub head_bytes_lem : (r : Reading) → OpenedOk s r → s ≡ head_bytes r.n r.k ++ drop head_size s
   head_bytes_lem r head =
-      field16 s bytes 0 mark_hD (omega arith) head.mark_is
-      ∙ ap (λ (l : List ℕ). bytes16 mark_hD ++ l)
+      field16 s bytes 0 mark_hd (omega arith) head.mark_is
+      ∙ ap (λ (l : List ℕ). bytes16 mark_hd ++ l)
       (field16 (drop 2 s) after_mark 0 r.n (long 2 (omega arith)) head.n_is
       ∙ ap (λ (l : List ℕ). bytes16 r.n ++ l)
       (field8 (drop 2 s) 2 r.k (long 3 (omega arith)) head.k_is
