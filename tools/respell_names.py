@@ -19,6 +19,10 @@ BINDERS = re.compile(r"[({]((?:[^\s(){}\[\],;.«»\":]+\s+)+):\s|λ\s+((?:[^\s()
 
 
 def snake(name):
+    if "-" not in name and re.search(r"[a-z]", name[:1]):
+        # two capitals in a row, as of markHD and notASender
+        name = re.sub(r"([A-Z])([A-Z][a-z])", lambda m: m[1] + "_" + m[2].lower(), name)
+        name = re.sub(r"([a-z])([A-Z]{2,})", lambda m: m[1] + "_" + m[2].lower(), name)
     name = re.sub(r"([a-z0-9₀-₉])([A-Z])", lambda m: m[1] + "_" + m[2].lower(), name)
     return name.replace("-", "_")
 

@@ -1,6 +1,6 @@
 -- `landing_entries::flags::flag_all` meets its contract.
 -- Assumes nothing.
-use Rattle.std.proofs.Common.{ℕ, ◌-◌, ◌≡◌, ap, arith, rules}
+use Rattle.std.proofs.Common.{ℕ, ◌≡◌, ap, arith, rules}
 use Rattle.limits.specs.Limits.{sender_flag}
 use Rattle.lists.specs.Values.{no_values, next_value, later_value}
 use Rattle.subset.specs.Sets.{union}

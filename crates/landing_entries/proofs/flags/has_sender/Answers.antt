@@ -1,6 +1,6 @@
 -- `landing_entries::flags::has_sender` meets its contract.
 -- Assumes nothing.
-use Rattle.std.proofs.Common.{ℕ, ◌-◌, ◌≡◌, refl, sym, ◌∙◌, subst, false, arith, rules}
+use Rattle.std.proofs.Common.{ℕ, ◌≡◌, refl, sym, ◌∙◌, subst, false, arith, rules}
 use Rattle.lists.specs.Find.{any_found, none_more}
 use Rattle.landing_entries.specs.Entries.{is_sender_at}
 use Rattle.landing_entries.specs.laws.Flags.{some_sender}
