@@ -15,7 +15,7 @@ use Rattle.lists.specs.Cheapest.{cheapest_same}
 use Rattle.lists.specs.Numbers.{length_values}
 use Rattle.lists.specs.Over.{over}
 use Rattle.subset.specs.Sets.{full}
-use Rattle.answer.specs.Stated.{Stated, plan, cell, sender, no_sender, refused, of_search}
+use Rattle.answer.specs.Stated.{Stated, plan, shared, cell, sender, no_sender, refused, of_search}
 use Rattle.graph.specs.Graph.{Graph}
 use Rattle.graph.specs.Paths.{ReachesAll}
 use Rattle.graph.specs.Subtrees.{Subtree, Covers, total}
@@ -200,6 +200,10 @@ enquired sheet bytes before after answer (safe, _) finished = go answer refl fin
 
     go : (s : Stated) → answer ≡ s → Finished s → LeftMeansLeast sheet after
     go (plan root cost count) is _ = by_tables (safe.planned root cost count is)
+    go (shared root _ _ unassigned) is f = elim f [ ]
+    go (cell _) is f = elim f [ ]
+    go (sender _) is f = elim f [ ]
+    go no_sender is f = elim f [ ]
     go (refused family number place) is (inl twelve) = by_tables (safe.late family number place is (omega arith))
     go (refused family number place) is (inr thirteen) = by_tables (safe.late family number place is (omega arith))
 
