@@ -6,11 +6,6 @@ ghost use Rattle.std.specs.Prelude.{◌≡◌, ◌+◌, ◌^◌, ◌<◌, ◌≤
 ghost use Rattle.desk_words.specs.Words.{decimal};
 ghost use Rattle.desk_words.specs.Stored.{Stored};
 
-use itoa::write_digits;
-
-// A number of eight bytes has at most so many digits.
-const MOST_DIGITS: usize = 20;
-
 // One byte.
 fn put(text: &mut [u8], at: usize, byte: u8)
     ensures { text.new ≡ set text.old at byte }
@@ -39,9 +34,9 @@ fn put_number(text: &mut [u8], at: usize, value: u64) -> usize
     ensures stored { Stored (decimal value) at result text.old text.new }
     ensures upper_bound { result ≤ at + 20 }
 {
-    let mut digits = [0u8; MOST_DIGITS];
-    let start = write_digits(value, &mut digits, MOST_DIGITS);
-    put_word(text, at, &digits[start..])
+    let mut digits = [0u8; 20];
+    let count = io::decimal(value, &mut digits);
+    put_word(text, at, &digits[..count])
 }
 
 // A word and the number after it.

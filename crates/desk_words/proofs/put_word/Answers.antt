@@ -1,6 +1,6 @@
 -- `desk_words::put_word` meets its contract.
 -- Assumes nothing.
-use Rattle.std.proofs.Common.{refl, rules}
+use Rattle.std.proofs.Common.{◌-◌, refl, rules}
 use Rattle.desk_words.specs.laws.Storing.{stored_byte, stored_word}
 use Rattle.desk_words.proofs.put_word.Goals as goal
 
