@@ -1,6 +1,6 @@
 -- `best_plan::best_plan` meets its contract.
 -- Assumes nothing.
-use Rattle.best_plan.specs.laws.Best.{of_full, none_sent}
+use Rattle.best_plan.proofs.laws.Best.{of_full, none_sent}
 use Rattle.layout.specs.laws.Roots.{full_in}
 use Rattle.best_plan.proofs.best_plan.Goals as goal
 

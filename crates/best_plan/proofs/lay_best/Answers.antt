@@ -1,7 +1,7 @@
 -- `best_plan::lay_best` meets its contract.
 -- Assumes nothing.
 use Rattle.std.proofs.Common.{sym, arith, length-take-le}
-use Rattle.best_plan.specs.laws.Best.{on, finite_root, few_laid, plan_fits, plan_sent}
+use Rattle.best_plan.proofs.laws.Best.{on, finite_root, few_laid, plan_fits, plan_sent}
 use Rattle.best_plan.proofs.lay_best.Goals as goal
 
 pub lay_out-count-requires : goal.lay_out-count-requires

@@ -1,6 +1,6 @@
 -- `best_plan::write_best` meets its contract.
 -- Assumes nothing.
-use Rattle.best_plan.specs.laws.Best.{sent_file, sent_short, never_none}
+use Rattle.best_plan.proofs.laws.Best.{sent_file, sent_short, never_none}
 use Rattle.best_plan.proofs.write_best.Goals as goal
 
 pub returns-in-File : goal.returns-in-File

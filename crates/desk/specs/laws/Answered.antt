@@ -12,7 +12,7 @@ use Rattle.lists.specs.Joined.{joined, joined_every}
 use Rattle.lists.specs.Numbers.{get_d_values}
 use Rattle.lists.specs.Over.{over, length_over}
 use Rattle.answer.specs.Stated.{Stated, plan, shared, cell, sender, no_sender, refused, of_tables, stated_sheet}
-use Rattle.answer.specs.laws.OneToOne.{refusal_no_plan}
+use Rattle.answer.proofs.laws.OneToOne.{refusal_no_plan}
 use Rattle.answer.specs.declared.Refusal.TheVariants.{Sheet}
 use Rattle.answer.specs.declared.SheetFault.{SheetFault}
 use Rattle.answer.specs.declared.SheetFault.TheVariants.{ShortSheet, StrangeMark, BadHead, NoSuchSite, NoSuchStation, Loop, BadPrice, TooManyLegs, AfterTheEnd, Unheard}
@@ -27,13 +27,13 @@ use Rattle.opener.specs.Opening.{SheetOpening, refuses, opens, by_verdict, by_op
 use Rattle.record_tables.specs.laws.Held.{start_held, end_held, weight_held}
 use Rattle.network.specs.Network.{graph_of}
 use Rattle.planfile.specs.Format.{file_bytes, file_size, listed_arc, arcs_to}
-use Rattle.planfile.specs.laws.FormatLaws.{length_file, arcs_read_first}
+use Rattle.planfile.proofs.laws.FormatLaws.{length_file, arcs_read_first}
 use Rattle.mission.specs.Runs.{EngineTables, engine_tables, EngineLong, Run, run}
-use Rattle.mission.specs.laws.PointLaws.{refused_not_plan, same_plan}
+use Rattle.mission.proofs.laws.PointLaws.{refused_not_plan, same_plan}
 use Rattle.best_plan.specs.Plan.{Plan, plan_of, with_file}
 use Rattle.engine.specs.Engine.{searched, planning_of}
 use Rattle.engine.specs.laws.Rules.{by_cases}
-use Rattle.best_plan.specs.laws.Found.{PlanFound, sheet_found}
+use Rattle.best_plan.proofs.laws.Found.{PlanFound, sheet_found}
 use Rattle.desk_lines.specs.Lines.{first_line, arc_line}
 use Rattle.desk.specs.Text.{refusal_text, arc_text, plan_text, desk_arcs, desk_nodes, desk_cells, desk_tree, desk_fits, sheet_text}
 use Rattle.desk_answer.specs.AnswerText.{line_of, answer_text, listed_legs}

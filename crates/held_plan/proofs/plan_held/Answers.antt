@@ -1,6 +1,6 @@
 -- `held_plan::plan_held` meets its contract.
 -- Assumes nothing.
-use Rattle.best_plan.specs.laws.Best.{search_finishes}
+use Rattle.best_plan.proofs.laws.Best.{search_finishes}
 use Rattle.held_plan.proofs.plan_held.Goals as goal
 
 pub best_plan-requires : goal.best_plan-requires

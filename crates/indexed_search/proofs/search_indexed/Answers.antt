@@ -2,7 +2,7 @@
 -- Assumes nothing.
 use Rattle.std.proofs.Common.{ap₂, rules}
 use Rattle.lent_tables.specs.IndexTables.{index_tables}
-use Rattle.network.specs.HeldSheet.{ends_below, held_index}
+use Rattle.network.proofs.HeldSheet.{ends_below, held_index}
 use Rattle.indexed_search.proofs.search_indexed.Goals as goal
 
 pub index_arcs-requires : goal.index_arcs-requires

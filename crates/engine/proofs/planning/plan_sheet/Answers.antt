@@ -5,7 +5,7 @@ use Rattle.number_fields.specs.laws.FieldLaws.{known_bytes}
 use Rattle.lent_tables.specs.SheetTables.{sheet_tables}
 use Rattle.lent_tables.specs.IndexTables.{index_tables}
 use Rattle.opener.specs.laws.Opened.{opened_sheet, opened_refusal}
-use Rattle.network.specs.HeldSheet.{opened_held}
+use Rattle.network.proofs.HeldSheet.{opened_held}
 use Rattle.mission.specs.Runs.{engine_tables, engine_further}
 use Rattle.engine.specs.laws.Whole.{refusal_sent, whole_sent}
 use Rattle.engine.specs.laws.PointThree.{cites_points}
