@@ -1,6 +1,6 @@
 -- `arc_rows::link` stays within its tables. The loop's invariant: they are as long as before. The measure is the number of records left.
 -- Assumes nothing.
-use Rattle.std.proofs.Common.{ℕ, ◌-◌, sym, ap, ◌∙◌, subst, ⊎_elim, arith, length, get_or, length-set, T, rules}
+use Rattle.std.proofs.Common.{ℕ, ◌-◌, sym, ap, ◌∙◌, subst, arith, length, get_or, length-set, T, rules}
 use Rattle.lists.specs.Listed.{listed}
 use Rattle.lists.specs.Numbers.{value_in}
 use Rattle.planfile.specs.Format.{listed_arc, arcs_to}

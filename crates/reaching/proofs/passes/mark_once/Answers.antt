@@ -1,6 +1,6 @@
 -- `reaching::passes::mark_once` meets its contract.
 -- Assumes nothing.
-use Rattle.std.proofs.Common.{ℕ, ◌-◌, ◌≡◌, refl, sym, subst, ⊎_elim, arith, length, T, rules}
+use Rattle.std.proofs.Common.{ℕ, ◌-◌, ◌≡◌, refl, sym, subst, arith, length, T, rules}
 use Rattle.lists.specs.Listed.{listed}
 use Rattle.lists.specs.Numbers.{value_in}
 use Rattle.planfile.specs.Format.{listed_arc, arcs_to}
