@@ -7,10 +7,10 @@ use Rattle.desk_words.proofs.put_number.Goals as goal
 
 pub put_word-requires : goal.put_word-requires
 put_word-requires c =
-    let few : c.decimal-count.result ≤ 20 = few_digits _ _ c.decimal-count.ensures.1.0 (omega (arith, c.ranges.value)) in
-    omega (arith, few, c.decimal-count.ensures.0.1)
+    let few : c.decimal-count.result ≤ 20 = few_digits _ _ c.decimal-count.ensures.len (omega (arith, c.ranges.value)) in
+    omega (arith, few, c.decimal-count.ensures.in_bounds)
 
 pub returns : goal.returns
 returns c =
-    let few : c.decimal-count.result ≤ 20 = few_digits _ _ c.decimal-count.ensures.1.0 (omega (arith, c.ranges.value)) in
-    record { stored = stored_same (c.decimal-count.ensures.1.1 ∙ digits_decimal _ _ c.decimal-count.ensures.1.0) c.put_word.ensures; upper_bound = omega (arith, c.put_word.ensures.place, few, c.decimal-count.ensures.0.1) }
+    let few : c.decimal-count.result ≤ 20 = few_digits _ _ c.decimal-count.ensures.len (omega (arith, c.ranges.value)) in
+    record { stored = stored_same (c.decimal-count.ensures.digits ∙ digits_decimal _ _ c.decimal-count.ensures.len) c.put_word.ensures; upper_bound = omega (arith, c.put_word.ensures.place, few, c.decimal-count.ensures.in_bounds) }
