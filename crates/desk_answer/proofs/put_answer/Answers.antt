@@ -3,7 +3,7 @@
 use Rattle.std.proofs.Common.{sym, ap, ◌∙◌, arith}
 use Rattle.answer.specs.Stated.{stated}
 use Rattle.desk_answer.specs.AnswerText.{listed_legs}
-use Rattle.desk_answer.specs.laws.Listed.{stored_plan, stored_refusal}
+use Rattle.desk_answer.proofs.laws.Listed.{stored_plan, stored_refusal}
 use Rattle.desk_answer.proofs.put_answer.Goals as goal
 
 pub put_arcs-requires : goal.put_arcs-requires

@@ -3,9 +3,9 @@
 use Rattle.std.proofs.Common.{ℕ, ◌≡◌, refl, ap, arith, rules}
 use Rattle.lists.specs.Joined.{joined}
 use Rattle.planfile.specs.Format.{arcs_to}
-use Rattle.desk_words.specs.laws.Storing.{stored_none, stored_same, stored_then}
+use Rattle.desk_words.proofs.laws.Storing.{stored_none, stored_same, stored_then}
 use Rattle.desk_answer.specs.AnswerText.{line_of}
-use Rattle.desk_answer.specs.laws.Listed.{lines_more}
+use Rattle.desk_answer.proofs.laws.Listed.{lines_more}
 use Rattle.desk_answer.proofs.put_arcs.Goals as goal
 
 pub loop-i-init : goal.loop-i-init

@@ -1,7 +1,7 @@
 -- `desk_lines::put_refusal` meets its contract.
 -- Assumes nothing.
 use Rattle.std.proofs.Common.{arith}
-use Rattle.desk_words.specs.laws.Storing.{stored_then}
+use Rattle.desk_words.proofs.laws.Storing.{stored_then}
 use Rattle.desk_lines.proofs.put_refusal.Goals as goal
 
 pub returns : goal.returns

@@ -1,7 +1,7 @@
 -- `desk_words::put_field` meets its contract.
 -- Assumes nothing.
 use Rattle.std.proofs.Common.{arith}
-use Rattle.desk_words.specs.laws.Storing.{stored_then}
+use Rattle.desk_words.proofs.laws.Storing.{stored_then}
 use Rattle.desk_words.proofs.put_field.Goals as goal
 
 pub returns : goal.returns

@@ -1,8 +1,8 @@
 -- `desk_words::put_number` meets its contract: the digits that the library writes are those of the number.
 -- Assumes nothing.
 use Rattle.std.proofs.Common.{◌≤◌, ◌∙◌, arith}
-use Rattle.desk_words.specs.laws.Decimal.{digits_decimal, few_digits}
-use Rattle.desk_words.specs.laws.Storing.{stored_same}
+use Rattle.desk_words.proofs.laws.Decimal.{digits_decimal, few_digits}
+use Rattle.desk_words.proofs.laws.Storing.{stored_same}
 use Rattle.desk_words.proofs.put_number.Goals as goal
 
 pub put_word-requires : goal.put_word-requires

@@ -1,7 +1,7 @@
 -- `desk_words::put_word` meets its contract.
 -- Assumes nothing.
 use Rattle.std.proofs.Common.{◌-◌, refl, rules}
-use Rattle.desk_words.specs.laws.Storing.{stored_byte, stored_word}
+use Rattle.desk_words.proofs.laws.Storing.{stored_byte, stored_word}
 use Rattle.desk_words.proofs.put_word.Goals as goal
 
 pub loop-i-init : goal.loop-i-init

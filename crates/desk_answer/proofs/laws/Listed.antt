@@ -8,7 +8,7 @@ use Rattle.lists.specs.Numbers.{numbers, numbers_more}
 use Rattle.answer.specs.Stated.{Stated, Family, plan, refused}
 use Rattle.planfile.specs.Format.{listed_arc, arcs_to}
 use Rattle.desk_words.specs.Stored.{Stored}
-use Rattle.desk_words.specs.laws.Storing.{stored_then}
+use Rattle.desk_words.proofs.laws.Storing.{stored_then}
 use Rattle.desk_lines.specs.Lines.{refusal_line, first_line}
 use Rattle.desk_answer.specs.AnswerText.{line_of, answer_text}
 

@@ -6,7 +6,7 @@ use Rattle.lists.specs.Over.{fit_over}
 use Rattle.desk_words.specs.Words.{ascii}
 use Rattle.desk.specs.Text.{desk_bytes, text_bytes, sheet_text, desk_text}
 use Rattle.desk_words.specs.Stored.{Stored}
-use Rattle.desk_words.specs.laws.Storing.{stored_same, stored_first}
+use Rattle.desk_words.proofs.laws.Storing.{stored_same, stored_first}
 
 -- what is written for the input, and what is returned
 abbrev Written : (input : List ℕ) → (end : ℕ) → (before after : List ℕ) → Type 0
