@@ -2,7 +2,7 @@
  * A small program over the library: plans the sheet on standard input and prints the plan as the desk program does, with tables for the
  * largest sheet. In the repository's root:
  *
- *     rt staticlib uldhvamm
+ *     ./build library
  *     cc -Iinclude -o plan_sheet c/plan_sheet.c target/staticlib/libuldhvamm.a
  *     ./plan_sheet <samples/A.sheet
  *

@@ -13,7 +13,7 @@ fn main() {
     println!("cargo:rerun-if-changed={}", library.display());
     if !library.is_file() {
         eprintln!(
-            "{} is missing. The command `rt staticlib uldhvamm`, run in the repository's root, builds it.",
+            "{} is missing. The command `./build library`, run in the repository's root, builds it.",
             library.display()
         );
         exit(1);

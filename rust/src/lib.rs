@@ -1,6 +1,6 @@
 //! Uldhvamm, a planner of radio relays, in Rust: a safe wrapper of the proved static library.
 //!
-//! `rt staticlib uldhvamm`, run in the repository's root, writes the library to `target/staticlib`. A package that depends on this one by
+//! `./build library`, run in the repository's root, writes the library to `target/staticlib`. A package that depends on this one by
 //! its path is linked with it; `ULDHVAMM_LIB` names another folder. include/uldhvamm.h says what each call asks for, returns and writes.
 //!
 //! ```

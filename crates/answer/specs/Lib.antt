@@ -1,4 +1,2 @@
 -- what each answer states
 pub mod Stated
--- laws
-pub mod laws

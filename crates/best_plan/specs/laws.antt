@@ -1,5 +1,2 @@
--- the plan of a graph, by the stated rule
-pub mod Laid
-pub mod Found
--- the plan as the code finds it
+-- what the contracts of this crate and of others speak of
 pub mod Best

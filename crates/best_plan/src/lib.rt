@@ -1,5 +1,6 @@
 // The plan that a finished cost table gives: its root, its total and its legs, written into the plan buffer.
 #![tactic(auto)]
+
 ghost use Rattle.std.proofs.Math.Option.{some};
 ghost use Rattle.answer.specs.Stated.{stated};
 ghost use Rattle.lent_tables.specs.SheetTables.{sheet_tables};

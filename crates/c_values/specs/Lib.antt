@@ -1,5 +1,3 @@
 -- the number and the values of an answer, and some computed
 pub mod Values
 pub mod Worked
--- laws
-pub mod laws

@@ -40,8 +40,8 @@ use Rattle.shares.specs.SharesOf.{ShareTables, share_tables, sharing_of}
 use Rattle.shares.specs.laws.Sums.{ShareLong, MakesTotal, sharing_whole}
 use Rattle.cases.specs.Meaning.{Finished, CellMeans, SenderMeans, MeansLeast}
 use Rattle.plan_reader.specs.Reader.{reading_of}
-use Rattle.cases.specs.laws.Enquired.{enquired, root_named}
-use Rattle.cases.specs.laws.EngineShares.{engine_assigned}
+use Rattle.cases.proofs.laws.Enquired.{enquired, root_named}
+use Rattle.cases.proofs.laws.EngineShares.{engine_assigned}
 
 -- calls of the enquirer over these cells and landing entries, for n sites and k stations: each answer means the least total
 pub record CallsMean (n k : ℕ) (G : Graph) (left entries : List ℕ) : Type 0 where

@@ -5,5 +5,3 @@ pub mod Worked
 pub mod Shares
 -- what the enquirer's answers mean
 pub mod Meaning
--- the engines that the points shut out, and that the answers mean it over the tables that the engine leaves
-pub mod laws

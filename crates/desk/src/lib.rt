@@ -1,6 +1,7 @@
 // The text that the desk program (document 01, "The desk program and worked sheets") writes for an input: the sheet is planned with the desk's
 // tables, and the answer is written as text.
 #![tactic(auto)]
+
 ghost use Rattle.std.specs.Prelude.{◌≡◌, ◌≤◌, length};
 ghost use Rattle.lists.specs.Over.{fit_over};
 ghost use Rattle.desk.specs.Text.{text_bytes, desk_text, sheet_text};

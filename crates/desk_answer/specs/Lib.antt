@@ -1,5 +1,3 @@
 -- the text of an answer, and what it needs
 pub mod AnswerText
 pub mod Listable
--- laws of what is stored
-pub mod laws

@@ -1,5 +1,6 @@
 // The text of an answer of the engine: a plan as its first line and the line of each leg, or the line of a refusal.
 #![tactic(auto)]
+
 ghost use Rattle.std.specs.Prelude.{◌+◌, ◌*◌, ◌^◌, ◌<◌, ◌≤◌};
 ghost use Rattle.lists.specs.Joined.{joined};
 ghost use Rattle.answer.specs.Stated.{stated};

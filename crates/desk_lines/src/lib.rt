@@ -1,6 +1,7 @@
 // The lines of the desk program's text (document 01, "The desk program and worked sheets"), stored in a lent text: a refusal, the first line of a
 // listing, and the line of a leg.
 #![tactic(auto)]
+
 ghost use Rattle.std.specs.Prelude.{◌+◌, ◌^◌, ◌<◌, ◌≤◌};
 ghost use Rattle.desk_words.specs.Stored.{Stored};
 ghost use Rattle.desk_lines.specs.Lines.{refusal_line, first_line, arc_line};

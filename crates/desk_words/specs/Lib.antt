@@ -2,5 +2,3 @@
 pub mod Words
 pub mod Worked
 pub mod Stored
--- laws of decimal numbers and of what is stored
-pub mod laws

@@ -1,6 +1,7 @@
 // Words and decimal numbers, stored in a text from a place on. Each function gives the place after what it stores; bytes for which the text has no
 // place are counted and not stored.
 #![tactic(auto)]
+
 ghost use Rattle.std.specs.Prelude.{◌≡◌, ◌+◌, ◌^◌, ◌<◌, ◌≤◌, length, set, ◌++◌};
 ghost use Rattle.desk_words.specs.Words.{decimal};
 ghost use Rattle.desk_words.specs.Stored.{Stored};

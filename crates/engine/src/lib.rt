@@ -1,3 +1,4 @@
 // The engine: the planning entry point, from a sheet to the plan file.
 #![tactic(auto)]
+
 pub mod planning;

@@ -2,6 +2,7 @@
 // for a site and a subset, and, lent the landing sets too, the best sender of a subset. Its methods take it apart; `cell` and `best_sender` are
 // for callers who have the table and the numbers. Any numbers may be asked, with any table. Nothing is written.
 #![tactic(auto)]
+
 ghost use Rattle.std.specs.Prelude.{◌≡◌};
 ghost use Rattle.answer.specs.Stated.{stated_enquiry};
 ghost use Rattle.questions.specs.Questions.{cell_answer, sender_answer};

@@ -2,5 +2,3 @@
 pub mod FileAnswer
 -- what the reading of a file's legs asks for
 pub mod ArcsReady
--- what the marks say, and the file against the tables that hold a sheet
-pub mod laws

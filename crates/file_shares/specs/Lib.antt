@@ -2,5 +2,3 @@
 pub mod Sharing
 -- what the dividing of a plan asks and gives
 pub mod PlanReady
--- the parents, the seats and the sums that the code has are those of the plan
-pub mod laws

@@ -1,5 +1,6 @@
 // Sites that have a finite cell of one station. The others have no finite cell of more, so that a search passes over them.
 #![tactic(auto)]
+
 ghost use Rattle.std.specs.Prelude.{◌≡◌, false, ◌+◌, ◌*◌, ◌<◌, ◌≤◌, length};
 ghost use Rattle.limits.specs.Limits.{max_nodes, max_subsets};
 ghost use Rattle.cost_table.specs.Cells.{cell_in};

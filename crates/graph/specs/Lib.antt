@@ -7,9 +7,5 @@ pub mod LeastTotals
 pub mod Growth
 pub mod ClosedSupported
 pub mod Layout
--- the theorems
-pub mod Theorems
 -- small worked graphs
 pub mod Worked
--- the laws that prove the theorems
-pub mod laws

@@ -1,6 +1,7 @@
 // The plan of a sheet that tables hold: its legs are indexed by their end, the cost table is searched, every site is marked, and the best plan is laid
 // out and written.
 #![tactic(auto)]
+
 ghost use Rattle.std.specs.Prelude.{◌≡◌, length, replicate};
 ghost use Rattle.limits.specs.Limits.{no_cost};
 ghost use Rattle.lists.specs.Over.{over};

@@ -1,5 +1,6 @@
 // The search over tables that hold a sheet, with its index: the legs are indexed by their end, the cost table is searched, and every site is marked.
 #![tactic(auto)]
+
 ghost use Rattle.std.specs.Prelude.{◌≡◌, length, replicate};
 ghost use Rattle.limits.specs.Limits.{no_cost};
 ghost use Rattle.lists.specs.Over.{over};

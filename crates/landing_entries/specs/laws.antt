@@ -1,4 +1,2 @@
--- what an entry says, and what joins it
-pub mod EntryLaws
--- the flags of a table of entries
+-- what the contracts of this crate and of others speak of
 pub mod Flags

@@ -8,5 +8,3 @@ pub mod FileDue
 pub mod PointOne
 pub mod PointTwo
 pub mod PointThree
--- laws
-pub mod laws

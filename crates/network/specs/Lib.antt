@@ -6,5 +6,3 @@ pub mod Indexed
 pub mod HeldSheet
 -- the worked sheets
 pub mod Worked
--- laws
-pub mod laws

@@ -1,4 +1,2 @@
 -- what a reader must believe
 pub mod Order
--- laws
-pub mod laws

@@ -1,15 +1,33 @@
 // The desk program: it reads a sheet from standard input, one byte more than a sheet may have at most, and writes its plan or its refusal to
 // standard output. Where that fails it says so on standard error. Its stored run is sheet A.
 #![tactic(auto)]
-use desk::{MAX_BYTES, TEXT_BYTES, desk_text};
-use libc::{STDERR_FILENO, STDIN_FILENO, STDOUT_FILENO};
 
-fn main() {
+ghost use Rattle.std.specs.Prelude.{◌≤◌, length};
+
+use desk::{MAX_BYTES, TEXT_BYTES, desk_text};
+use std::io::Read;
+
+// Reads until the buffer is full, the input ends or a read fails, and gives how many bytes stand at its start.
+fn read_full<R: Read>(input: &mut R, bytes: &mut [u8]) -> usize
+    ensures { result ≤ length bytes.new }
+{
+    let mut done = 0;
+    while done < bytes.len() {
+        let count = input.read(&mut bytes[done..]).unwrap_or(0);
+        if count == 0 {
+            break;
+        }
+        done += count;
+    }
+    done
+}
+
+fn main(rt: HostRuntime) {
     let mut input = [0u8; MAX_BYTES + 1];
-    let size = io::read_full(STDIN_FILENO, &mut input);
+    let size = read_full(&mut rt.stdin(), &mut input);
     let mut text = [0u8; TEXT_BYTES];
     let end = desk_text(&input[..size], &mut text);
-    if !io::write_all(STDOUT_FILENO, &text[..end]) {
-        io::write_all(STDERR_FILENO, b"the text could not be written\n");
+    if rt.write_all(&text[..end]).is_err() {
+        let _ = eprintln!(rt; "the text could not be written");
     }
 }

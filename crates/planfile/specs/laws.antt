@@ -1,5 +1,2 @@
--- the law beside the encoding
-pub mod Encoded
--- laws of the format and of the writing
+-- what the contracts of this crate and of others speak of
 pub mod FormatLaws
-pub mod WritingLaws

@@ -3,5 +3,3 @@ pub mod Records
 pub mod Arcs
 pub mod Landings
 pub mod Senders
--- laws of several records
-pub mod laws

@@ -1,5 +1,6 @@
 // The cells of four sets, four for each site, are lowered along the legs of an index until none of them gives less.
 #![tactic(auto)]
+
 ghost use Rattle.std.specs.Prelude.{◌≡◌, ◌+◌, ◌*◌, ◌≤◌, length};
 ghost use Rattle.limits.specs.Limits.{max_weight};
 ghost use Rattle.lent_tables.specs.SheetTables.{arcs_alone};

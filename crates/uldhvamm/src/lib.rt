@@ -2,6 +2,7 @@
 // entry point returns 0 for a plan, an acceptance, shares or an answer of the enquirer, else the number of the refusal, and writes what the
 // answer states into `answer`, as far as it has entries.
 #![tactic(auto)]
+
 ghost use Rattle.std.specs.Prelude.{◌≡◌};
 ghost use Rattle.lent_tables.specs.SheetTables.{sheet_tables};
 ghost use Rattle.lent_tables.specs.IndexTables.{index_tables};

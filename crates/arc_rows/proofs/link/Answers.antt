@@ -1,6 +1,6 @@
 -- `arc_rows::link` stays within its tables. The loop's invariant: they are as long as before. The measure is the number of records left.
 -- Assumes nothing.
-use Rattle.std.proofs.Common.{ℕ, ◌-◌, sym, ap, ◌∙◌, subst, ⊎_elim, arith, length, get_or, length-set, T, rules}
+use Rattle.std.proofs.Common.{ℕ, ◌-◌, sym, ap, ◌∙◌, subst, arith, length, get_or, length-set, T, rules}
 use Rattle.lists.specs.Listed.{listed}
 use Rattle.lists.specs.Numbers.{value_in}
 use Rattle.planfile.specs.Format.{listed_arc, arcs_to}
@@ -56,10 +56,10 @@ loop-i-preserved c =
     let a = c.args in
     let e = c.arc_at-e.result in
     elim c.if-next-e.branch [
-      then-next-e w ↦ (
+      | then-next-e w ↦ (
         search rules,
         ap length w.first-is ∙ length-set {A = ℕ} c.loop-i.first (get_or a.starts.now e 0) c.loop-i.i ∙ c.loop-i.invariant.1,
         ap length w.next-is ∙ length-set {A = ℕ} c.loop-i.next e w.followed_by.result ∙ c.loop-i.invariant.2,
       )
-    | else-next-e w ↦ (search rules, ap length w.first-is ∙ c.loop-i.invariant.1, ap length w.next-is ∙ c.loop-i.invariant.2)
+      | else-next-e w ↦ (search rules, ap length w.first-is ∙ c.loop-i.invariant.1, ap length w.next-is ∙ c.loop-i.invariant.2)
     ]

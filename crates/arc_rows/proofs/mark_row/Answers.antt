@@ -1,6 +1,6 @@
 -- `arc_rows::mark_row` meets its contract.
 -- Assumes nothing.
-use Rattle.std.proofs.Common.{ℕ, ◌-◌, refl, sym, ap, ◌∙◌, subst, ⊎_elim, arith, length, T}
+use Rattle.std.proofs.Common.{ℕ, ◌-◌, refl, sym, ap, ◌∙◌, subst, arith, length, T}
 use Rattle.lists.specs.Listed.{listed}
 use Rattle.lists.specs.Numbers.{value_in}
 use Rattle.planfile.specs.Format.{listed_arc, arcs_to}
@@ -64,12 +64,12 @@ loop-turns-preserved c =
     let r = c.mark_end.result in
     let given = c.mark_end.ensures in
     elim c.if-mark_end.branch [
-      then-mark_end w ↦ (
+      | then-mark_end w ↦ (
         omega arith,
         ap length w.queue-is ∙ w.push-tail.ensures.size ∙ c.loop-turns.invariant.1,
         row_more _ _ _ _ within _ found _ _ _ _ _ _ _ _ r row given w.push-tail.ensures w.queue-is w.tail-is,
       )
-    | else-mark_end w ↦ (
+      | else-mark_end w ↦ (
         omega arith,
         ap length w.queue-is ∙ c.loop-turns.invariant.1,
         row_same _ _ _ _ within _ found _ _ _ _ _ _ r row given w.queue-is w.tail-is,

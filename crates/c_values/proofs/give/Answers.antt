@@ -2,7 +2,7 @@
 -- Assumes nothing.
 use Rattle.std.proofs.Common.{sym, ap}
 use Rattle.answer.specs.Stated.{stated}
-use Rattle.c_values.specs.laws.Giving.{gives_plan, gives_same}
+use Rattle.c_values.proofs.laws.Giving.{gives_plan, gives_same}
 use Rattle.c_values.proofs.give.Goals as goal
 
 pub returns-in-Plan : goal.returns-in-Plan

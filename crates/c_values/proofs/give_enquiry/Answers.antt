@@ -2,7 +2,7 @@
 -- Assumes nothing.
 use Rattle.std.proofs.Common.{refl, sym, ap}
 use Rattle.answer.specs.Stated.{cell, sender, no_sender, stated_enquiry}
-use Rattle.c_values.specs.laws.Giving.{gives_value, gives_same}
+use Rattle.c_values.proofs.laws.Giving.{gives_value, gives_same}
 use Rattle.c_values.proofs.give_enquiry.Goals as goal
 
 pub returns-in-Cell : goal.returns-in-Cell

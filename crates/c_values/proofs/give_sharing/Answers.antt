@@ -2,7 +2,7 @@
 -- Assumes nothing.
 use Rattle.std.proofs.Common.{sym, ap}
 use Rattle.answer.specs.Stated.{stated_sharing}
-use Rattle.c_values.specs.laws.Giving.{gives_shared, gives_same}
+use Rattle.c_values.proofs.laws.Giving.{gives_shared, gives_same}
 use Rattle.c_values.proofs.give_sharing.Goals as goal
 
 pub returns-in-Shared : goal.returns-in-Shared

@@ -6,7 +6,7 @@ use Rattle.limits.specs.Limits.{max_arcs}
 use Rattle.lent_tables.specs.SheetTables.{SheetTables}
 use Rattle.arc_index.specs.laws.Indexed.{Indexed}
 use Rattle.cost_table.specs.Cells.{cell_in}
-use Rattle.cost_table.specs.laws.Rows.{place_of, place_lt}
+use Rattle.cost_table.proofs.laws.Rows.{place_of, place_lt}
 use Rattle.lanes.specs.laws.Columns.{ColumnsTaken}
 use Rattle.working_none.specs.laws.WorkingNone.{working_none}
 use Rattle.working_none.specs.laws.Low.{entry, AllLow}

@@ -1,6 +1,6 @@
 -- `desk::desk_text` meets its contract: too many bytes have their own text, and any other input is a sheet.
 -- Assumes nothing.
-use Rattle.desk.specs.laws.Input.{too_long, short_enough}
+use Rattle.desk.proofs.laws.Input.{too_long, short_enough}
 use borrow.Author.Rules.{rules}
 use Rattle.desk.proofs.desk_text.Statement.{statement}
 use Rattle.desk.proofs.desk_text.Tie as tie

@@ -2,8 +2,8 @@
 -- Assumes nothing.
 use native.Mathlib.Omega.{arith}
 use Rattle.number_fields.specs.laws.FieldLaws.{known_bytes}
-use Rattle.desk_words.specs.laws.Storing.{stored_same}
-use Rattle.desk.specs.laws.Answered.{zeros, zeros_desk, answered}
+use Rattle.desk_words.proofs.laws.Storing.{stored_same}
+use Rattle.desk.proofs.laws.Answered.{zeros, zeros_desk, answered}
 use borrow.Author.Rules.{rules}
 use Rattle.desk.proofs.put_sheet.Statement.{statement}
 use Rattle.desk.proofs.put_sheet.Tie as tie

@@ -5,7 +5,7 @@ use Rattle.std.proofs.Math.Option.{Option, none, some}
 use Rattle.std.proofs.Common.{arith}
 use Rattle.limits.specs.Refusals.{short_tables, no_plan, short_buffer}
 use Rattle.answer.specs.Stated.{Family, plan, refused, of_search, of_tables, stated_sheet}
-use Rattle.answer.specs.laws.OneToOne.{refusal_no_plan}
+use Rattle.answer.proofs.laws.OneToOne.{refusal_no_plan}
 use Rattle.answer.specs.declared.SheetFault.{SheetFault}
 use Rattle.answer.specs.declared.Refusal.TheVariants.{Sheet}
 use Rattle.sheet.specs.Verdict.{good, verdict}
@@ -14,7 +14,7 @@ use Rattle.network.specs.Network.{graph_of}
 use Rattle.planfile.specs.Format.{file_size}
 use Rattle.mission.specs.Runs.{EngineTables, with_buffer, engine_further, GoodWith, Run}
 use Rattle.mission.specs.PointOne.{AsAfterPlan, EngineNumber, EngineSafe, EnginePointOne, PlanOrRefusal}
-use Rattle.mission.specs.laws.PointLaws.{same_number, plan_not_refused, refused_not_plan, sheet_number, sheet_refusal, first_due}
+use Rattle.mission.proofs.laws.PointLaws.{same_number, plan_not_refused, refused_not_plan, sheet_number, sheet_refusal, first_due}
 use Rattle.best_plan.specs.Plan.{Plan, plan_of, with_file, written, sent_back}
 use Rattle.engine.specs.Engine.{searched, planning_of}
 use Rattle.engine.specs.laws.Rules.{by_cases}

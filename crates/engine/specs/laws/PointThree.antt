@@ -5,7 +5,7 @@ use Rattle.std.specs.Prelude.{ℕ, ◌≡◌, refl, ◌↔◌, List, length}
 use Rattle.std.proofs.Common.{sym, ap, subst, arith}
 use Rattle.limits.specs.Refusals.{short_buffer}
 use Rattle.answer.specs.Stated.{Stated, refused, of_tables}
-use Rattle.answer.specs.laws.OneToOne.{refusal_no_plan}
+use Rattle.answer.proofs.laws.OneToOne.{refusal_no_plan}
 use Rattle.answer.specs.declared.Refusal.TheVariants.{Sheet}
 use Rattle.graph.specs.Graph.{Graph}
 use Rattle.records.specs.Arcs.{arcs}
@@ -14,10 +14,10 @@ use Rattle.sheet.specs.Verdict.{good, verdict}
 use Rattle.records.specs.declared.record.Record.{Record}
 use Rattle.network.specs.Network.{graph_of}
 use Rattle.planfile.specs.Format.{total_in}
-use Rattle.planfile.specs.laws.Encoded.{encoding_fields}
+use Rattle.planfile.proofs.laws.Encoded.{encoding_fields}
 use Rattle.mission.specs.Runs.{ReaderTables, ReaderLong, EngineTables, EngineLong, Run, run}
-use Rattle.mission.specs.laws.PointLaws.{same_number, plan_not_refused, refused_not_plan, same_plan, same_sheet}
-use Rattle.mission.specs.laws.OnePlan.{one_plan}
+use Rattle.mission.proofs.laws.PointLaws.{same_number, plan_not_refused, refused_not_plan, same_plan, same_sheet}
+use Rattle.mission.proofs.laws.OnePlan.{one_plan}
 use Rattle.mission.specs.PointOne.{EngineAnswers}
 use Rattle.mission.specs.PointTwo.{IsPlan, EngineSound, Accepts}
 use Rattle.mission.specs.PointThree.{PlanTooLong, NoneCheaper, BestTotal, PlansOrNot, EngineBest, PointThree}
@@ -26,7 +26,7 @@ use Rattle.plan_reader.specs.laws.PointTwo.{point_two as reads-plans, accepted_g
 use Rattle.best_plan.specs.Plan.{Plan}
 use Rattle.engine.specs.Engine.{planning_of}
 use Rattle.engine.specs.laws.Rules.{by_cases, by_long_cases}
-use Rattle.best_plan.specs.laws.Found.{PlanFound, none_found, found_reaches, rule_reaches, sheet_plannable, sheet_found}
+use Rattle.best_plan.proofs.laws.Found.{PlanFound, none_found, found_reaches, rule_reaches, sheet_plannable, sheet_found}
 use Rattle.engine.specs.laws.PointOne.{point_one}
 use Rattle.engine.specs.laws.PointTwo.{point_two}
 

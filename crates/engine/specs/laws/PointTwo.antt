@@ -6,23 +6,23 @@ use Rattle.std.proofs.Math.Option.{some}
 use Rattle.std.proofs.Common.{arith}
 use Rattle.lists.specs.Over.{over}
 use Rattle.answer.specs.Stated.{plan}
-use Rattle.answer.specs.laws.OneToOne.{refusal_no_plan}
+use Rattle.answer.proofs.laws.OneToOne.{refusal_no_plan}
 use Rattle.answer.specs.declared.Refusal.TheVariants.{Sheet}
 use Rattle.number_fields.specs.Fields.{Bytes}
 use Rattle.sheet.specs.Verdict.{good, verdict}
 use Rattle.records.specs.declared.record.Record.{Record}
 use Rattle.network.specs.Network.{graph_of}
 use Rattle.planfile.specs.Format.{file_bytes, file_size}
-use Rattle.planfile.specs.laws.FormatLaws.{file_bytes_lem, length_file}
+use Rattle.planfile.proofs.laws.FormatLaws.{file_bytes_lem, length_file}
 use Rattle.mission.specs.Runs.{EngineTables, GoodWith, Run}
-use Rattle.mission.specs.laws.PointLaws.{refused_not_plan, same_plan}
+use Rattle.mission.proofs.laws.PointLaws.{refused_not_plan, same_plan}
 use Rattle.mission.specs.PointTwo.{PlanWritten, PlanAccepted, EngineSound, EnginePointTwo}
 use Rattle.plan_reader.specs.Reader.{reading_of}
 use Rattle.plan_reader.specs.laws.PointTwo.{point_two as reads-plans}
 use Rattle.best_plan.specs.Plan.{Plan, plan_of, with_file}
 use Rattle.engine.specs.Engine.{searched, planning_of}
 use Rattle.engine.specs.laws.Rules.{by_cases}
-use Rattle.best_plan.specs.laws.Found.{sheet_found, plan_encoded}
+use Rattle.best_plan.proofs.laws.Found.{sheet_found, plan_encoded}
 
 module _ (sheet : List ℕ) (bytes : Bytes sheet) (t : EngineTables) where
   module _ (n k : ℕ) (records : List Record) (e : verdict sheet ≡ good n k records) (p : Plan) (q : plan_of (graph_of n k records) ≡ some p)

@@ -13,7 +13,7 @@ use Rattle.graph.specs.HeldGraph.{graph_in}
 use Rattle.cost_table.specs.Cells.{cost_table}
 use Rattle.opener.specs.Opening.{refuses, sheet_opening}
 use Rattle.opener.specs.laws.Opened.{OpenedSheet}
-use Rattle.network.specs.HeldSheet.{opened_graph}
+use Rattle.network.proofs.HeldSheet.{opened_graph}
 use Rattle.network.specs.Indexed.{indexed}
 use Rattle.mission.specs.Runs.{EngineTables, engine_tables, with_sheet, engine_further, run}
 use Rattle.best_plan.specs.Plan.{plan_of}

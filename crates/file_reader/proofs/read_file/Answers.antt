@@ -2,7 +2,7 @@
 -- Assumes nothing.
 use Rattle.std.proofs.Common.{sym, ◌∙◌, arith, length-take}
 use Rattle.lent_tables.specs.SheetTables.{sheet_tables}
-use Rattle.file_reader.specs.laws.Against.{fault_read, arcs_ready, arcs_judged}
+use Rattle.file_reader.proofs.laws.Against.{fault_read, arcs_ready, arcs_judged}
 use Rattle.file_reader.proofs.read_file.Goals as goal
 
 pub slice_bounds-read_arcs-end-in-Fields : goal.slice_bounds-read_arcs-end-in-Fields

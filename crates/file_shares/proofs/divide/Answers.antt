@@ -2,8 +2,8 @@
 -- Assumes nothing.
 use Rattle.std.proofs.Common.{arith}
 use Rattle.serving.specs.laws.Serving.{no_parents, none_served}
-use Rattle.file_shares.specs.laws.PlanWays.{plan_within, plan_ways}
-use Rattle.file_shares.specs.laws.Dividing.{listed_ready, divided}
+use Rattle.file_shares.proofs.laws.PlanWays.{plan_within, plan_ways}
+use Rattle.file_shares.proofs.laws.Dividing.{listed_ready, divided}
 use Rattle.file_shares.proofs.divide.Goals as goal
 
 pub set_parents-requires : goal.set_parents-requires

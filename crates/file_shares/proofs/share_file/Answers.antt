@@ -3,7 +3,7 @@
 use Rattle.std.proofs.Common.{sym, ap, ◌∙◌}
 use Rattle.answer.specs.Stated.{stated}
 use Rattle.lent_tables.specs.SheetTables.{sheet_tables}
-use Rattle.file_shares.specs.laws.Shared.{read_held, marks_part, shares_part, share_refused, plan_ready, some_plan, share_accepted}
+use Rattle.file_shares.proofs.laws.Shared.{read_held, marks_part, shares_part, share_refused, plan_ready, some_plan, share_accepted}
 use Rattle.file_shares.proofs.share_file.Goals as goal
 
 pub read_file-answer-requires : goal.read_file-answer-requires

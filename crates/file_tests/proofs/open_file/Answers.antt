@@ -1,7 +1,7 @@
 -- `file_tests::open_file` meets its contract. The head's fault is the file's, and so is that of a record where the head has none.
 -- Assumes nothing.
 use Rattle.std.proofs.Common.{sym, ◌∙◌}
-use Rattle.file_tests.specs.laws.Returned.{head_fault_opened, head_opened, arcs_fault_opened, file_opened}
+use Rattle.file_tests.proofs.laws.Returned.{head_fault_opened, head_opened, arcs_fault_opened, file_opened}
 use Rattle.file_tests.proofs.open_file.Goals as goal
 
 pub test_arcs-tested-requires : goal.test_arcs-tested-requires

@@ -3,8 +3,8 @@
 use Rattle.std.proofs.Common.{ℕ, ◌<◌, sym, ap, ◌∙◌, subst, arith, le-ltb, lt-ltb, le-leb, eq-eqb, ne_eqb}
 use borrow.Author.Tests.{lt-leb}
 use Rattle.planfile.specs.Format.{file_size}
-use Rattle.file_tests.specs.laws.Returned.{fields_opened}
-use Rattle.file_tests.specs.laws.Faults.{head_passes}
+use Rattle.file_tests.proofs.laws.Returned.{fields_opened}
+use Rattle.file_tests.proofs.laws.Faults.{head_passes}
 use Rattle.file_tests.specs.FileFaults.{head_fault}
 use Rattle.file_tests.proofs.open_head.Goals as goal
 

@@ -6,8 +6,8 @@ use Rattle.lists.specs.Below.{below_more}
 use Rattle.planfile.specs.Format.{count_in}
 use Rattle.file_tests.specs.FileFaults.{arc_fault}
 use Rattle.file_tests.specs.Tested.{tested_as}
-use Rattle.file_tests.specs.laws.Faults.{arc_passed, arcs_passes, arcs_fault_lem}
-use Rattle.file_tests.specs.laws.Returned.{tested_passed, tested_failed}
+use Rattle.file_tests.proofs.laws.Faults.{arc_passed, arcs_passes, arcs_fault_lem}
+use Rattle.file_tests.proofs.laws.Returned.{tested_passed, tested_failed}
 use Rattle.file_tests.proofs.test_arcs.Goals as goal
 
 pub loop-i-init : goal.loop-i-init

@@ -1,7 +1,7 @@
 -- `finite_sites::next_finite` meets its contract.
 -- Assumes nothing.
 use Rattle.std.proofs.Common.{◌-◌, arith}
-use Rattle.cost_table.specs.laws.Rows.{row_fits}
+use Rattle.cost_table.proofs.laws.Rows.{row_fits}
 use Rattle.finite_sites.specs.laws.Finite.{between_none, between_next}
 use Rattle.finite_sites.proofs.next_finite.Goals as goal
 

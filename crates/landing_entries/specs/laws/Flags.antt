@@ -1,8 +1,6 @@
--- The flags of the first n entries of a table: whether there is one, the table with all of them, and the table with all of them where there was
--- none.
+-- What the contracts speak of: see proofs/laws/Flags.antt.
 -- Assumes nothing.
-use Rattle.std.specs.Prelude.{ℕ, ◌≡◌, Bool, true, false, cond, List, map, get_or}
-use Rattle.std.proofs.Common.{ap}
+use Rattle.std.specs.Prelude.{ℕ, Bool, cond, List, map, get_or}
 use Rattle.limits.specs.Limits.{sender_flag}
 use Rattle.lists.specs.Find.{any_to}
 use Rattle.lists.specs.Numbers.{numbers}
@@ -21,10 +19,3 @@ all_flagged n entries = over (map (λ v. union (get_or entries v 0) sender_flag)
 -- each has it where none had it
 abbrev pub flagged_unless_some : ℕ → List ℕ → List ℕ
 flagged_unless_some n entries = cond (some_sender n entries) entries (all_flagged n entries)
-
--- by the test of the flags
-pub none_flagged : (n : ℕ) (entries : List ℕ) → some_sender n entries ≡ false → flagged_unless_some n entries ≡ all_flagged n entries
-none_flagged n entries e = ap (λ (b : Bool). cond b entries (all_flagged n entries)) e
-
-pub some_flagged : (n : ℕ) (entries : List ℕ) → some_sender n entries ≡ true → flagged_unless_some n entries ≡ entries
-some_flagged n entries e = ap (λ (b : Bool). cond b entries (all_flagged n entries)) e

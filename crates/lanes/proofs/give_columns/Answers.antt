@@ -1,7 +1,7 @@
 -- `lanes::give_columns` meets its contract.
 -- Assumes nothing.
 use Rattle.std.proofs.Common.{◌-◌, ◌<◌, arith}
-use Rattle.cost_table.specs.laws.Rows.{row_fits}
+use Rattle.cost_table.proofs.laws.Rows.{row_fits}
 use Rattle.lanes.specs.laws.Columns.{give_none, give_next, given_all}
 use Rattle.lanes.proofs.give_columns.Goals as goal
 

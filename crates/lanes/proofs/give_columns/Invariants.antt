@@ -1,6 +1,5 @@
 -- `lanes::give_columns` meets its contract. The loop's invariant: the nodes from v on have what the lanes have. The measure is v.
 -- Assumes nothing.
-use Rattle.std.proofs.Common.{◌-◌}
 use Rattle.lanes.specs.laws.Four.{nth_number}
 use Rattle.lanes.specs.laws.Columns.{GivenFrom}
 use Rattle.lanes.proofs.give_columns.Given as goal

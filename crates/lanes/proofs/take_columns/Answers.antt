@@ -1,7 +1,7 @@
 -- `lanes::take_columns` meets its contract.
 -- Assumes nothing.
-use Rattle.std.proofs.Common.{◌-◌, arith, rules}
-use Rattle.cost_table.specs.laws.Rows.{row_fits}
+use Rattle.std.proofs.Common.{arith, rules}
+use Rattle.cost_table.proofs.laws.Rows.{row_fits}
 use Rattle.lanes.specs.laws.Columns.{take_none, take_next, taken_all}
 use Rattle.lanes.proofs.take_columns.Goals as goal
 

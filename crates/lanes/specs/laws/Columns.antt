@@ -4,7 +4,7 @@ use Rattle.std.specs.Prelude.{ℕ, ◌+◌, ◌-◌, ◌*◌, ◌≤◌, ◌<◌
 use Rattle.std.proofs.Common.{sym, ap, ◌∙◌, subst, inl, inr, arith}
 use Rattle.std.proofs.Math.Decide.{ℕ_discrete}
 use Rattle.cost_table.specs.Cells.{cell_in}
-use Rattle.cost_table.specs.laws.Rows.{row_fits}
+use Rattle.cost_table.proofs.laws.Rows.{row_fits}
 use Rattle.lanes.specs.declared.Four.{Four}
 use Rattle.lanes.specs.laws.Four.{nth, four_of, below_four}
 use Rattle.lanes.specs.laws.WriteFour.{write_four, put_four, four_length, four_node, four_other}

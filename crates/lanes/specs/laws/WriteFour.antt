@@ -5,7 +5,7 @@ use Rattle.std.specs.Prelude.{ℕ, ◌+◌, ◌*◌, ◌≤◌, ◌<◌, ◌≡�
 use Rattle.std.proofs.Common.{sym, ap, ◌∙◌, inl, inr, arith, length-set, get_or-set_same, get_or-set_other, eq-eqb, ne_eqb}
 use Rattle.std.proofs.Math.Decide.{ℕ_discrete}
 use Rattle.cost_table.specs.Cells.{cell_in}
-use Rattle.cost_table.specs.laws.Rows.{place_node, place_set}
+use Rattle.cost_table.proofs.laws.Rows.{place_node, place_set}
 use Rattle.lanes.specs.laws.Four.{below_four}
 
 -- the entries p 0 to p 3 become x 0 to x 3

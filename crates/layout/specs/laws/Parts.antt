@@ -9,8 +9,8 @@ use Rattle.lists.specs.Tests.{not_both}
 use Rattle.subset.specs.Sets.{Part}
 use Rattle.graph.specs.Graph.{Graph}
 use Rattle.graph.specs.Layout.{is_done, fits, splits}
-use Rattle.graph.specs.laws.LayoutRule.{facts_done}
-use Rattle.graph.specs.Theorems.{rule_split, step_applies, splitting_falls, splitting_leads}
+use Rattle.graph.proofs.laws.LayoutRule.{facts_done}
+use Rattle.graph.proofs.Theorems.{rule_split, step_applies, splitting_falls, splitting_leads}
 use Rattle.layout_walk.specs.Plan.{cells_for, laid, Finished}
 use Rattle.layout_walk.specs.laws.Walk.{Placed}
 use Rattle.layout_walk.specs.laws.Arcs.{load}

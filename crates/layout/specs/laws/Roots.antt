@@ -5,7 +5,7 @@ use Rattle.std.proofs.Common.{sym, ◌∙◌, subst}
 use Rattle.std.proofs.Math.Option.{some}
 use Rattle.std.proofs.Math.Pow.{ones_lt}
 use Rattle.limits.specs.Limits.{no_cost}
-use Rattle.lists.specs.Cheapest.{cheapest_found, cheapest_same}
+use Rattle.lists.proofs.Cheapest.{cheapest_found, cheapest_same}
 use Rattle.subset.specs.Sets.{full}
 use Rattle.lent_tables.specs.SheetTables.{SheetTables}
 use Rattle.landing_entries.specs.Entries.{is_sender_at}
@@ -13,7 +13,7 @@ use Rattle.graph.specs.HeldGraph.{graph_in, may_root_in}
 use Rattle.graph.specs.Layout.{root_of}
 use Rattle.cost_table.specs.Cells.{cell_in}
 use Rattle.cost_table.specs.Cheapest.{column_in, sender_column, LowestTo}
-use Rattle.cost_table.specs.laws.Senders.{lowest_sender, no_sender_lem}
+use Rattle.cost_table.proofs.laws.Senders.{lowest_sender, no_sender_lem}
 use Rattle.layout.specs.Root.{full_cell_in}
 
 -- the full set is one of the 2^k sets

@@ -13,7 +13,7 @@ use Rattle.lent_tables.specs.SheetTables.{SheetTables}
 use Rattle.graph.specs.Graph.{Graph}
 use Rattle.graph.specs.HeldGraph.{graph_in}
 use Rattle.graph.specs.Layout.{splits}
-use Rattle.graph.specs.Theorems.{layout_is_least}
+use Rattle.graph.proofs.Theorems.{layout_is_least}
 use Rattle.cost_table.specs.Cells.{cell_in}
 use Rattle.layout_steps.specs.Steps.{found_as}
 use Rattle.layout_steps.specs.laws.Tests.{found_some, found_none}

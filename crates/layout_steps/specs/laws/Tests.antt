@@ -6,7 +6,8 @@ use Rattle.std.proofs.Math.Option.{Option, none, some}
 use Rattle.std.specs.Int.Count.{ones}
 use Rattle.limits.specs.Limits.{no_cost}
 use Rattle.lists.specs.Tests.{true_fact, false_not_fact, same_tests, eq_fact, and_left, and_right, and_both, or_cases, or_right, and_fails, and_passes}
-use Rattle.lists.specs.Find.{first, first_found, first_none}
+use Rattle.lists.specs.Find.{first}
+use Rattle.lists.proofs.First.{first_found, first_none}
 use Rattle.lists.specs.Below.{below_more}
 use Rattle.subset.specs.Sets.{single, has, Part, is_part}
 use Rattle.landing_entries.specs.Entries.{terminals_in}
@@ -16,7 +17,7 @@ use Rattle.subset.specs.laws.Sizes.{ones_single, one_terminal}
 use Rattle.lent_tables.specs.SheetTables.{SheetTables}
 use Rattle.graph.specs.HeldGraph.{graph_in, landings_in}
 use Rattle.graph.specs.Layout.{is_done}
-use Rattle.graph.specs.laws.LayoutRule.{done_facts, facts_done}
+use Rattle.graph.proofs.laws.LayoutRule.{done_facts, facts_done}
 use Rattle.cost_table.specs.Cells.{cell_in}
 use Rattle.layout_steps.specs.Steps.{done_at, values_fit, fits_in, found_as}
 use Rattle.layout_steps.specs.declared.Found.TheVariants.{At, Nothing}

@@ -12,7 +12,7 @@ use Rattle.lists.specs.Stores.{sets_then, sets_over}
 use Rattle.lists.specs.Over.{over}
 use Rattle.graph.specs.Graph.{Graph}
 use Rattle.graph.specs.Layout.{is_done, fits}
-use Rattle.graph.specs.Theorems.{rule_nothing, rule_arc, following_falls, following_leads}
+use Rattle.graph.proofs.Theorems.{rule_nothing, rule_arc, following_falls, following_leads}
 use Rattle.cost_table.specs.Cells.{cell_in}
 use Rattle.layout_walk.specs.Plan.{cells_for, laid, Finished}
 use Rattle.layout_walk.specs.laws.Walk.{Placed, Stored}

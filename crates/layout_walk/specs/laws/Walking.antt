@@ -7,7 +7,7 @@ use Rattle.limits.specs.Limits.{no_cost}
 use Rattle.lists.specs.Find.{first}
 use Rattle.graph.specs.Graph.{Graph}
 use Rattle.graph.specs.Layout.{is_done, fits}
-use Rattle.graph.specs.Theorems.{following_falls}
+use Rattle.graph.proofs.Theorems.{following_falls}
 use Rattle.layout_walk.specs.Plan.{cells_for, laid, Finished}
 use Rattle.layout_walk.specs.laws.Walk.{Placed, Stored, Walked, Stopped}
 use Rattle.layout_walk.specs.laws.Arcs.{load, stored_nothing, stored_one, stored_both, stored_length, nothing_laid, arc_laid, arc_placed}

@@ -11,7 +11,7 @@ use Rattle.records.specs.Records.{record_bytes, records_bytes, end_bytes, sizes,
 use Rattle.records.specs.Arcs.{arcs_of, arcs}
 use Rattle.sheet.specs.Verdict.{Verdict, good, bad, verdict}
 use Rattle.sheet.specs.laws.Good.{IsSheet, sheet_is_good}
-use Rattle.records.specs.laws.Appended.{size_low, arcs_append, sizes_append, count_more}
+use Rattle.records.proofs.laws.Appended.{size_low, arcs_append, sizes_append, count_more}
 use Rattle.loader.specs.laws.FirstRecord.{WholeRecord, first_record, whole_record, first_record_lem, sheet_length, bytes_left}
 use Rattle.records.specs.declared.record.Record.{Record}
 use Rattle.records.specs.declared.record.Record.TheVariants.{OneWay, BothWays, Landing, Sender}

@@ -9,7 +9,7 @@ use Rattle.lent_tables.specs.SheetTables.{arcs_alone}
 use Rattle.graph.specs.Graph.{Graph}
 use Rattle.graph.specs.HeldGraph.{start_in, end_in}
 use Rattle.graph.specs.Paths.{DirectedPath}
-use Rattle.graph.specs.laws.Reaching.{path_same, path_then}
+use Rattle.graph.proofs.laws.Reaching.{path_same, path_then}
 use Rattle.marking.specs.Links.{link_graph, Within}
 use Rattle.marking.specs.Marking.{Marked, Marking, Carried, ArcMarks}
 

@@ -1,11 +1,11 @@
 -- `copy_order` meets its contract.
 -- Assumes nothing.
-use Rattle.std.proofs.Common.{ℕ, ◌-◌, ap, ◌∙◌, List, map, arith, get_or, rules}
+use Rattle.std.proofs.Common.{ℕ, ap, ◌∙◌, List, map, arith, get_or, rules}
 use lib.Count.{ones_in}
 use Rattle.lists.specs.Numbers.{numbers}
 use Rattle.lists.specs.Values.{no_values, next_value, all_values}
 use Rattle.order.specs.Order.{of_size, order_by, in_order}
-use Rattle.order.specs.laws.Rule.{computed}
+use Rattle.order.proofs.laws.Rule.{computed}
 use Rattle.order.proofs.copy_order.Goals as goal
 
 pub loop-position-init : goal.loop-position-init

@@ -26,8 +26,8 @@ overflow_add-count c = omega (arith, c.loop-position-test.true, c.loop-position.
 pub loop-position-preserved : goal.loop-position-preserved
 loop-position-preserved c =
     elim c.if-w-size.branch [
-      then-w-size w ↦ kept_next c.loop-position.invariant c.loop-position-test.true refl (λ t. t) (λ t. t) (inl (w.if-w-size.true, w.count-is))
-    | else-w-size w ↦ kept_next c.loop-position.invariant c.loop-position-test.true refl (λ t. t) (λ t. t) (inr (w.if-w-size.false, w.count-is))
+      | then-w-size w ↦ kept_next c.loop-position.invariant c.loop-position-test.true refl (λ t. t) (λ t. t) (inl (w.if-w-size.true, w.count-is))
+      | else-w-size w ↦ kept_next c.loop-position.invariant c.loop-position-test.true refl (λ t. t) (λ t. t) (inr (w.if-w-size.false, w.count-is))
     ]
 
 pub shape_of-sets : goal.shape_of-sets

@@ -10,7 +10,7 @@ use Rattle.std.proofs.Math.Seq.{get_or-set_same, get_or-set_other}
 use Rattle.limits.specs.Limits.{max_subsets}
 use Rattle.lists.specs.Numbers.{numbers, length_values, get_d_values}
 use Rattle.order.specs.Order.{in_order}
-use Rattle.order.specs.laws.Rule.{never_falls, position, one_position}
+use Rattle.order.proofs.laws.Rule.{never_falls, position, one_position}
 use Rattle.order_ranges.specs.laws.Ranges.{Ordered, entry_of}
 
 -- the position of the order at which a kept entry stood

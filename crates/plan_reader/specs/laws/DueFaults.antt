@@ -8,7 +8,8 @@ use Rattle.std.proofs.Math.Option.{Option, none, some}
 use Rattle.std.proofs.lemmas.Bool.{eqb-false, not-true, not-false, lt-leb}
 use Rattle.limits.specs.Marks.{mark_pn, mark_lg}
 use Rattle.lists.specs.Every.{Every}
-use Rattle.lists.specs.Find.{first, first_says}
+use Rattle.lists.specs.Find.{first}
+use Rattle.lists.proofs.First.{first_says}
 use Rattle.lists.specs.Listed.{listed_every}
 use Rattle.lists.specs.Tests.{true_fact, fact_true, false_not_fact, not_both}
 use Rattle.subset.specs.Sets.{full}
@@ -17,16 +18,16 @@ use Rattle.answer.specs.declared.PlanFault.{PlanFault}
 use Rattle.answer.specs.declared.PlanFault.TheVariants.{CutPlan, BadPlan, UnknownNumber, NoTree, NotASender, StationMissed, FalseTotal}
 use Rattle.graph.specs.Graph.{Graph}
 use Rattle.graph.specs.Subtrees.{Subtree, CoversAll, total, is_tree, is_covering}
-use Rattle.graph.specs.Theorems.{tree_test, covers_test, covers_all}
+use Rattle.graph.proofs.Theorems.{tree_test, covers_test, covers_all}
 use Rattle.number_fields.specs.Fields.{number16}
 use Rattle.planfile.specs.Format.{file_size, root_in, total_in, count_in, mark_at, listed_arc, arcs_in}
 use Rattle.mission.specs.FileDue.{HeadRead, Sized, RecordPasses, PassBefore, FilePasses, FileDue, under_head, no_mark, no_root, short, left_over}
 use Rattle.mission.specs.FileDue.{no_arc_mark, no_arc, no_tree_lem, not_sender, missed, false_total_lem}
-use Rattle.mission.specs.laws.PointLaws.{plan_not_refused}
+use Rattle.mission.proofs.laws.PointLaws.{plan_not_refused}
 use Rattle.file_tests.specs.FileFaults.{head_fault, arc_fault, is_fault, fault_at, arcs_fault, or_else, file_fault}
-use Rattle.file_tests.specs.laws.Faults.{some_fault, HeadOk, FileOk, head_passes, head_passed, arc_passed, arcs_fault_lem, file_passes, file_passed, listed_on}
+use Rattle.file_tests.proofs.laws.Faults.{some_fault, HeadOk, FileOk, head_passes, head_passed, arc_passed, arcs_fault_lem, file_passes, file_passed, listed_on}
 use Rattle.plan_tests.specs.PlanFaults.{tree_fault}
-use Rattle.plan_tests.specs.laws.FirstFailed.{failed_tree, failed_root, failed_held, failed_sum}
+use Rattle.plan_tests.proofs.laws.FirstFailed.{failed_tree, failed_root, failed_held, failed_sum}
 use Rattle.file_reader.specs.FileAnswer.{answered, answer_to}
 
 -- ---- what is stated of a fault

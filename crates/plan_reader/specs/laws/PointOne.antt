@@ -10,7 +10,7 @@ use Rattle.lists.specs.Find.{first}
 use Rattle.lists.specs.Over.{length_over}
 use Rattle.subset.specs.Sets.{full}
 use Rattle.answer.specs.Stated.{Family, Stated, plan, refused, of_tables, stated_sheet, stated_plan_file}
-use Rattle.answer.specs.laws.OneToOne.{refusal_no_plan}
+use Rattle.answer.proofs.laws.OneToOne.{refusal_no_plan}
 use Rattle.answer.specs.declared.SheetFault.{SheetFault}
 use Rattle.answer.specs.declared.PlanFault.{PlanFault}
 use Rattle.answer.specs.declared.PlanFault.TheVariants.{CutPlan, BadPlan, UnknownNumber, NoTree, NotASender, StationMissed, FalseTotal}
@@ -29,13 +29,13 @@ use Rattle.planfile.specs.Format.{file_size, root_in, total_in, count_in, mark_a
 use Rattle.mission.specs.Runs.{ReaderTables, reader_further, ReaderLong, GoodWith, Run, run}
 use Rattle.mission.specs.PointOne.{PlanOrRefusal, ReaderNumber, MarksReached, AsRead, ReaderSafe, ReaderAnswers, ReaderPointOne}
 use Rattle.mission.specs.PointTwo.{AcceptsPlans}
-use Rattle.mission.specs.laws.PointLaws.{number_in, same_number, plan_not_refused, refused_not_plan, sheet_number, sheet_refusal, first_due}
+use Rattle.mission.proofs.laws.PointLaws.{number_in, same_number, plan_not_refused, refused_not_plan, sheet_number, sheet_refusal, first_due}
 use Rattle.file_tests.specs.FileFaults.{head_fault, arc_fault, is_fault, fault_at, arcs_fault, or_else, file_fault}
 use Rattle.reaching.specs.Marks.{marks_of}
 use Rattle.reaching.specs.laws.MarkLaws.{marks_size}
 use Rattle.plan_tests.specs.PlanFaults.{first_failed, tree_fault}
 use Rattle.file_reader.specs.FileAnswer.{answered, marks_by}
-use Rattle.file_reader.specs.laws.MarksSay.{MarksSay, marks_say}
+use Rattle.file_reader.proofs.laws.MarksSay.{MarksSay, marks_say}
 use Rattle.plan_reader.specs.Reader.{read_against, reading_of}
 use Rattle.plan_reader.specs.laws.Rules.{given, filled_with, reached_marks, file_read, file_refused, plan_refused, plan_accepted}
 use Rattle.plan_reader.specs.laws.DueFaults.{gets_due}

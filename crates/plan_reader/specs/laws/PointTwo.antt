@@ -11,28 +11,28 @@ use Rattle.lists.specs.Numbers.{length_values, value_in}
 use Rattle.lists.specs.Tests.{fact_true}
 use Rattle.subset.specs.Sets.{full}
 use Rattle.answer.specs.Stated.{plan}
-use Rattle.answer.specs.laws.OneToOne.{refusal_no_plan}
+use Rattle.answer.proofs.laws.OneToOne.{refusal_no_plan}
 use Rattle.answer.specs.declared.Refusal.TheVariants.{Sheet, Tables}
 use Rattle.answer.specs.declared.TableFault.TheVariants.{ShortTables}
 use Rattle.answer.specs.declared.PlanFault.{PlanFault}
 use Rattle.graph.specs.Graph.{Graph}
 use Rattle.graph.specs.Subtrees.{Subtree, total, is_tree, is_covering}
-use Rattle.graph.specs.Theorems.{tree_test, covers_test, covers_all}
+use Rattle.graph.proofs.Theorems.{tree_test, covers_test, covers_all}
 use Rattle.records.specs.Arcs.{arcs}
 use Rattle.number_fields.specs.Fields.{Bytes}
 use Rattle.opener.specs.Opening.{SheetOpening}
 use Rattle.opener.specs.laws.Cases.{by_opening_cases}
 use Rattle.network.specs.Network.{graph_of}
 use Rattle.planfile.specs.Format.{root_in, total_in, count_in, listed_arc, arcs_in}
-use Rattle.planfile.specs.laws.Encoded.{WellFormed, FieldsAre, fields_encoding, encoding_fields}
+use Rattle.planfile.proofs.laws.Encoded.{WellFormed, FieldsAre, fields_encoding, encoding_fields}
 use Rattle.mission.specs.Runs.{GoodWith, ReaderTables, reader_further, ReaderLong, Run}
 use Rattle.mission.specs.PointTwo.{EncodesPlan, ReaderPointTwo}
 use Rattle.file_tests.specs.FileFaults.{or_else}
-use Rattle.file_tests.specs.laws.Faults.{FileOk, file_passes}
+use Rattle.file_tests.proofs.laws.Faults.{FileOk, file_passes}
 use Rattle.plan_tests.specs.PlanFaults.{plan_fault, tree_fault}
-use Rattle.plan_tests.specs.laws.FirstFailed.{failed_none}
+use Rattle.plan_tests.proofs.laws.FirstFailed.{failed_none}
 use Rattle.file_reader.specs.FileAnswer.{answered, answer_to}
-use Rattle.file_reader.specs.laws.Accepted.{accepted_file}
+use Rattle.file_reader.proofs.laws.Accepted.{accepted_file}
 use Rattle.plan_reader.specs.Reader.{reading_of}
 use Rattle.plan_reader.specs.laws.Rules.{given, file_read}
 

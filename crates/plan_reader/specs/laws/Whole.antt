@@ -10,7 +10,7 @@ use Rattle.graph.specs.Graph.{Graph}
 use Rattle.graph.specs.HeldGraph.{graph_in}
 use Rattle.opener.specs.Opening.{refuses, sheet_opening}
 use Rattle.opener.specs.laws.Opened.{OpenedSheet}
-use Rattle.network.specs.HeldSheet.{opened_graph}
+use Rattle.network.proofs.HeldSheet.{opened_graph}
 use Rattle.mission.specs.Runs.{ReaderTables, reader_tables, with_reader_sheet, reader_further, run}
 use Rattle.file_reader.specs.FileAnswer.{answer_to, marks_after}
 use Rattle.plan_reader.specs.Reader.{reading_of}

@@ -2,7 +2,8 @@
 -- Assumes nothing.
 use Rattle.std.proofs.Common.{ℕ, ◌-◌, ◌≡◌, refl, sym, ap, ap₂, ◌∙◌, arith, length}
 use Rattle.subset.specs.Sets.{union}
-use Rattle.subset.specs.Unions.{union_to, union_to_more}
+use Rattle.subset.specs.Unions.{union_to}
+use Rattle.subset.proofs.Unions.{union_to_more}
 use Rattle.plan_tests.specs.ByMarks.{terminals_marked}
 use Rattle.plan_tests.proofs.marked_terminals.Goals as goal
 

@@ -7,7 +7,7 @@ use Rattle.subset.specs.Sets.{full, is_part}
 use Rattle.landing_entries.specs.Entries.{sender_in}
 use Rattle.plan_tests.specs.PlanFaults.{answered_as}
 use Rattle.plan_tests.specs.ByMarks.{marked_count, marked_terminals, weight_sum}
-use Rattle.plan_tests.specs.laws.FirstFailed.{failed_tree, failed_root, failed_held, failed_sum, failed_none}
+use Rattle.plan_tests.proofs.laws.FirstFailed.{failed_tree, failed_root, failed_held, failed_sum, failed_none}
 use Rattle.plan_tests.proofs.test_plan.Goals as goal
 
 pub returns-then-marked_count-count : goal.returns-then-marked_count-count

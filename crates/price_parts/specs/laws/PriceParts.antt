@@ -4,7 +4,7 @@ use Rattle.std.specs.Prelude.{ℕ, ◌≤◌, ◌<◌, ◌≡◌}
 use Rattle.std.proofs.Common.{arith}
 use Rattle.lists.specs.Sums.{sum_to_entry}
 use Rattle.subset.specs.Sets.{has}
-use Rattle.plan_shares.specs.laws.Parts.{parts_whole}
+use Rattle.plan_shares.proofs.laws.Parts.{parts_whole}
 use Rattle.price_parts.specs.Splitting.{paid_by, paid_by_none}
 
 module _ (k payers price : ℕ) where

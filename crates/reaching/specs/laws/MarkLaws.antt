@@ -9,8 +9,8 @@ use Rattle.lists.specs.Numbers.{numbers, length_values, get_d_values, same_value
 use Rattle.lists.specs.Tests.{same_tests, by_fact}
 use Rattle.graph.specs.Graph.{Graph}
 use Rattle.graph.specs.Paths.{DirectedPath, is_reached}
-use Rattle.graph.specs.laws.Reaching.{path_agrees}
-use Rattle.graph.specs.laws.ReachTest.{reached_path, path_reached}
+use Rattle.graph.proofs.laws.Reaching.{path_agrees}
+use Rattle.graph.proofs.laws.ReachTest.{reached_path, path_reached}
 use Rattle.reaching.specs.Marks.{marks_of}
 
 -- there is one for each node

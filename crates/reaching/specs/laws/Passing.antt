@@ -11,8 +11,8 @@ use Rattle.lists.specs.Numbers.{numbers, values_more}
 use Rattle.lists.specs.Sums.{sum_to_lt}
 use Rattle.graph.specs.Graph.{Graph}
 use Rattle.graph.specs.Paths.{is_reached}
-use Rattle.graph.specs.laws.Reaching.{path_carries}
-use Rattle.graph.specs.laws.ReachTest.{reached_path, path_reached}
+use Rattle.graph.proofs.laws.Reaching.{path_carries}
+use Rattle.graph.proofs.laws.ReachTest.{reached_path, path_reached}
 use Rattle.marking.specs.Links.{link_graph, Within}
 use Rattle.marking.specs.Marking.{Marked, Marking, Carried, ArcMarks}
 use Rattle.marking.specs.laws.MarkingLaws.{set_marked, set_keeps, marking_start, carried_none, arc_start, arc_end, arc_to, marked_at, carried_arc}

@@ -5,7 +5,7 @@ use Rattle.std.proofs.Math.Path.{subst}
 use Rattle.std.proofs.Common.{ltb-false, eqb-true}
 use Rattle.limits.specs.Marks.{mark_lk, mark_bk, mark_st, mark_sr, mark_ed}
 use Rattle.number_fields.specs.Fields.{number16}
-use Rattle.record_tests.specs.laws.Passed.{Passed, ReadFrom, EndOk, Known, cond_both, fault_known, test, one_way_known, both_ways_known, landing_known, sender_known, mark_end_known}
+use Rattle.record_tests.proofs.laws.Passed.{Passed, ReadFrom, EndOk, Known, cond_both, fault_known, test, one_way_known, both_ways_known, landing_known, sender_known, mark_end_known}
 use Rattle.reading.specs.Steps.{found_in}
 use Rattle.records.specs.declared.record.Record.{Record}
 use Rattle.record_tests.specs.declared.Found.TheVariants.{Item, End}

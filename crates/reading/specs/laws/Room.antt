@@ -6,7 +6,7 @@ use Rattle.limits.specs.Limits.{max_terminals, max_arcs}
 use Rattle.records.specs.Records.{size, RecordOk}
 use Rattle.records.specs.Arcs.{arcs_of}
 use Rattle.records.specs.Landings.{LandsOne}
-use Rattle.record_tests.specs.laws.Passed.{Passed}
+use Rattle.record_tests.proofs.laws.Passed.{Passed}
 use Rattle.records.specs.declared.record.Record.{Record}
 use Rattle.records.specs.declared.record.Record.TheVariants.{OneWay, BothWays, Landing, Sender}
 use Rattle.reading.specs.declared.Reading.{Reading}

@@ -1,6 +1,6 @@
 -- `record_tables::clear_landings` meets its contract.
 -- Assumes nothing.
-use Rattle.std.proofs.Common.{◌-◌, ◌≡◌, arith, length-set, rules}
+use Rattle.std.proofs.Common.{◌≡◌, arith, length-set, rules}
 use borrow.Author.Fill.{fill_none, fill_more}
 use Rattle.record_tables.proofs.clear_landings.Goals as goal
 

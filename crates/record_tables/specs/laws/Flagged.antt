@@ -13,14 +13,15 @@ use Rattle.lists.specs.Over.{over, over_over, get_d_over}
 use Rattle.lists.specs.Tests.{by_test}
 use Rattle.subset.specs.Sets.{union}
 use Rattle.landing_entries.specs.Entries.{entry_of, sender_in, is_sender_at}
-use Rattle.landing_entries.specs.laws.EntryLaws.{sender_said, flag_joins}
-use Rattle.landing_entries.specs.laws.Flags.{some_sender, all_flagged, flagged_unless_some, none_flagged, some_flagged}
+use Rattle.landing_entries.proofs.laws.EntryLaws.{sender_said, flag_joins}
+use Rattle.landing_entries.specs.laws.Flags.{some_sender, all_flagged, flagged_unless_some}
+use Rattle.landing_entries.proofs.laws.Flags.{none_flagged, some_flagged}
 use Rattle.records.specs.Arcs.{arcs}
 use Rattle.records.specs.Landings.{terminals_at}
 use Rattle.records.specs.Records.{RecordOk}
 use Rattle.records.specs.Senders.{is_licence, is_named, landing_entry, landing_entries}
-use Rattle.records.specs.laws.Entries.{joined_at, joined_entries, few_terminals, joined_entry}
-use Rattle.records.specs.laws.Senders.{some_named, sender_named, sender_any}
+use Rattle.records.proofs.laws.Entries.{joined_at, joined_entries, few_terminals, joined_entry}
+use Rattle.records.proofs.laws.Senders.{some_named, sender_named, sender_any}
 use Rattle.records.specs.declared.record.Record.{Record}
 use Rattle.lent_tables.specs.SheetTables.{SheetTables, with_landings}
 use Rattle.record_tables.specs.Loaded.{filled, loaded}

@@ -10,12 +10,12 @@ use Rattle.lists.specs.Every.{Every}
 use Rattle.lists.specs.Numbers.{length_values, get_d_values}
 use Rattle.lists.specs.Over.{over, get_d_over, get_d_later}
 use Rattle.landing_entries.specs.Entries.{terminals_in, sender_in}
-use Rattle.landing_entries.specs.laws.EntryLaws.{terminals_said, sender_said}
+use Rattle.landing_entries.proofs.laws.EntryLaws.{terminals_said, sender_said}
 use Rattle.records.specs.Arcs.{Arc, arc, arcs, arc_at}
 use Rattle.records.specs.Landings.{terminals_at}
 use Rattle.records.specs.Senders.{is_sender, landing_entry, landing_entries}
 use Rattle.records.specs.Records.{RecordOk}
-use Rattle.records.specs.laws.Entries.{few_terminals}
+use Rattle.records.proofs.laws.Entries.{few_terminals}
 use Rattle.records.specs.declared.record.Record.{Record}
 use Rattle.lent_tables.specs.SheetTables.{SheetTables}
 use Rattle.record_tables.specs.Loaded.{loaded}

@@ -14,8 +14,8 @@ use Rattle.subset.specs.Sets.{single, union}
 use Rattle.records.specs.Arcs.{Arc, arcs_of, arcs}
 use Rattle.records.specs.Senders.{landing_entry, landing_entries}
 use Rattle.records.specs.Records.{RecordOk}
-use Rattle.records.specs.laws.Appended.{arcs_more, count_more}
-use Rattle.records.specs.laws.Entries.{joins, joined_at, joined_entries, joined_none, joined_one, landing_joins, landing_joins_not, sender_joins, sender_joins_not}
+use Rattle.records.proofs.laws.Appended.{arcs_more, count_more}
+use Rattle.records.proofs.laws.Entries.{joins, joined_at, joined_entries, joined_none, joined_one, landing_joins, landing_joins_not, sender_joins, sender_joins_not}
 use Rattle.lent_tables.specs.SheetTables.{SheetTables, with_arc_tables, with_landings, Long, SameLengths, long_fewer}
 use Rattle.record_tables.specs.Loaded.{filled, loaded}
 use Rattle.records.specs.declared.record.Record.{Record}

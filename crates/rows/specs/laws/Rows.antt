@@ -9,7 +9,7 @@ use Rattle.limits.specs.Limits.{max_nodes, max_subsets}
 use Rattle.lists.specs.Numbers.{numbers}
 use Rattle.landing_entries.specs.Entries.{terminals_in}
 use Rattle.cost_table.specs.Cells.{cell_in}
-use Rattle.cost_table.specs.laws.Rows.{row_fits}
+use Rattle.cost_table.proofs.laws.Rows.{row_fits}
 use Rattle.working_none.specs.laws.Low.{entry}
 use Rattle.rows.specs.laws.Start.{start_cell}
 

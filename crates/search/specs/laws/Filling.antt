@@ -10,8 +10,8 @@ use Rattle.subset.specs.laws.Parts.{part_le, difference_part, rest_disjoint, par
 use Rattle.graph.specs.Graph.{Graph, Sound, Landing}
 use Rattle.graph.specs.LeastTotals.{IsCostTable, Room}
 use Rattle.graph.specs.ClosedSupported.{Support, by_arc, by_split, Supported, Capped, StartedSet, ClosedSet}
-use Rattle.graph.specs.Theorems.{closed_and_supported, tries_start_set, parts_below_split, lowering_keeps_started, pass_closes_set, others_keep_closed}
-use Rattle.graph.specs.laws.Lowering.{support_lower}
+use Rattle.graph.proofs.Theorems.{closed_and_supported, tries_start_set, parts_below_split, lowering_keeps_started, pass_closes_set, others_keep_closed}
+use Rattle.graph.proofs.laws.Lowering.{support_lower}
 use Rattle.order_ranges.specs.laws.Ranges.{Ordered, OneSize, Outside, Inside, inside_or_out, part_outside, part_before, earlier_outside}
 use Rattle.settling.specs.laws.ClosedOver.{ArcFrom, ClosedOver}
 use Rattle.set_splits.specs.laws.BestSplit.{BestSplit, SplitAt, SettledParts}

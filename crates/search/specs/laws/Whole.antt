@@ -15,13 +15,13 @@ use Rattle.landing_entries.specs.Entries.{terminals_in}
 use Rattle.subset.specs.laws.Terminals.{has_lt}
 use Rattle.lent_tables.specs.SheetTables.{SheetTables, arc_tables_of, arcs_long}
 use Rattle.graph.specs.LeastTotals.{least_total, IsLeastTotal, least_cell, IsCostTable, Room}
-use Rattle.graph.specs.Theorems.{least_total_is_least}
+use Rattle.graph.proofs.Theorems.{least_total_is_least}
 use Rattle.graph.specs.Graph.{Graph}
 use Rattle.graph.specs.HeldGraph.{graph_in, start_in, end_in, weight_in, landings_in}
 use Rattle.graph.specs.ClosedSupported.{by_landing}
-use Rattle.graph.specs.laws.LeastMeaning.{room_above}
+use Rattle.graph.proofs.laws.LeastMeaning.{room_above}
 use Rattle.cost_table.specs.Cells.{cell_in, cost_table}
-use Rattle.cost_table.specs.laws.Rows.{row_fits, length_cells, cells_are}
+use Rattle.cost_table.proofs.laws.Rows.{row_fits, length_cells, cells_are}
 use Rattle.working_none.specs.laws.WorkingNone.{finished_below, working_none, finished}
 use Rattle.working_none.specs.laws.Low.{entry, AllLow}
 use Rattle.order_ranges.specs.laws.Ranges.{entry_of, Ordered, OneSize, first_empty, taken_order}

@@ -5,7 +5,8 @@ use Rattle.std.proofs.Common.{sym, ap, ap₂, ◌∙◌, subst, add-one, arith, 
 use Rattle.std.proofs.Math.Option.{Option, none, some}
 use Rattle.std.proofs.Math.Decide.{ℕ_discrete}
 use Rattle.std.proofs.lemmas.List.{length-replicate, get_or-replicate}
-use Rattle.lists.specs.Find.{first, first_found, first_none}
+use Rattle.lists.specs.Find.{first}
+use Rattle.lists.proofs.First.{first_found, first_none}
 use Rattle.lists.specs.Tests.{ltb_suc, true_fact, false_not_fact}
 use Rattle.subset.specs.Sets.{has, single}
 use Rattle.subset.specs.laws.Terminals.{has_single, has_empty}

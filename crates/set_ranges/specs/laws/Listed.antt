@@ -12,7 +12,7 @@ use Rattle.lists.specs.Numbers.{numbers, length_values, get_d_values}
 use Rattle.lists.specs.Over.{over, relent_length}
 use Rattle.arc_index.specs.Index.{by_end}
 use Rattle.order.specs.Order.{order_by}
-use Rattle.order.specs.laws.BySize.{same_order_by}
+use Rattle.order.proofs.laws.BySize.{same_order_by}
 use Rattle.subset_at.specs.laws.Indexed.{order_index}
 use Rattle.subset_at.specs.laws.Counts.{how_many}
 use Rattle.subset_at.specs.laws.Sizes.{RangeAt, next_place, place_in, size_here, size_behind}

@@ -5,7 +5,7 @@ use Rattle.number_fields.specs.laws.FieldLaws.{known_bytes}
 use Rattle.lent_tables.specs.SheetTables.{sheet_tables}
 use Rattle.lent_tables.specs.Lengths.{share_lengths}
 use Rattle.opener.specs.laws.Opened.{opened_sheet, opened_refusal}
-use Rattle.network.specs.HeldSheet.{opened_held}
+use Rattle.network.proofs.HeldSheet.{opened_held}
 use Rattle.mission.specs.Runs.{reader_tables}
 use Rattle.shares.specs.SharesOf.{share_tables}
 use Rattle.shares.specs.laws.Whole.{refusal_shared, whole_shared}

@@ -10,7 +10,7 @@ use Rattle.lists.specs.Numbers.{get_d_values, length_values}
 use Rattle.lists.specs.Over.{get_d_over}
 use Rattle.lists.specs.Sums.{sum_by, sum_to, sum_to_same}
 use Rattle.answer.specs.Stated.{Stated, plan, shared, cell, sender, no_sender, refused, of_tables, stated_sheet, stated_refusal}
-use Rattle.answer.specs.laws.OneToOne.{refusal_stated}
+use Rattle.answer.proofs.laws.OneToOne.{refusal_stated}
 use Rattle.answer.specs.declared.PlanFault.{PlanFault}
 use Rattle.answer.specs.declared.SheetFault.{SheetFault}
 use Rattle.answer.specs.declared.TableFault.TheVariants.{ShortTables}
@@ -19,7 +19,7 @@ use Rattle.answer.specs.declared.Refusal.TheVariants.{Sheet, Tables, PlanFile}
 use Rattle.lent_tables.specs.Lengths.{AllLong, are_long}
 use Rattle.lent_tables.specs.laws.LengthLaws.{test_long, long_passes}
 use Rattle.graph.specs.Graph.{Graph}
-use Rattle.graph.specs.laws.SubtreeParts.{total_weights}
+use Rattle.graph.proofs.laws.SubtreeParts.{total_weights}
 use Rattle.records.specs.Arcs.{arcs}
 use Rattle.records.specs.declared.record.Record.{Record}
 use Rattle.sheet.specs.Verdict.{good, bad, verdict}
@@ -31,9 +31,9 @@ use Rattle.mission.specs.Runs.{ReaderTables, ReaderLong, reader_further, GoodWit
 use Rattle.file_tests.specs.FileFaults.{file_fault, or_else}
 use Rattle.plan_tests.specs.PlanFaults.{tree_fault}
 use Rattle.file_reader.specs.FileAnswer.{answered, answer_to}
-use Rattle.file_reader.specs.laws.Accepted.{accepted_file}
+use Rattle.file_reader.proofs.laws.Accepted.{accepted_file}
 use Rattle.plan_shares.specs.Shares.{share_of, shares_of, unassigned}
-use Rattle.plan_shares.specs.laws.Parts.{shares_whole}
+use Rattle.plan_shares.proofs.laws.Parts.{shares_whole}
 use Rattle.file_shares.specs.Sharing.{with_unassigned, shares_by, sharing_to, shares_after}
 use Rattle.plan_reader.specs.Reader.{reading_of}
 use Rattle.plan_reader.specs.laws.Rules.{tables_short, file_read}

@@ -10,7 +10,7 @@ use Rattle.graph.specs.Graph.{Graph}
 use Rattle.graph.specs.HeldGraph.{graph_in}
 use Rattle.opener.specs.Opening.{SheetOpening, refuses, sheet_opening}
 use Rattle.opener.specs.laws.Opened.{OpenedSheet}
-use Rattle.network.specs.HeldSheet.{opened_graph}
+use Rattle.network.proofs.HeldSheet.{opened_graph}
 use Rattle.mission.specs.Runs.{reader_tables, with_reader_sheet, Run, run, run_opened}
 use Rattle.file_reader.specs.FileAnswer.{marks_after}
 use Rattle.file_shares.specs.Sharing.{sharing_to, shares_after}

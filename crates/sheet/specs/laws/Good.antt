@@ -11,8 +11,8 @@ use Rattle.records.specs.Records.{RecordOk, head_bytes, record_bytes, records_by
 use Rattle.sheet.specs.laws.RecordLaws.{read_bytes, end_bytes_lem, head_bytes_lem, found_bytes, found_end_bytes, opening_bytes, drop_record}
 use Rattle.records.specs.Arcs.{arcs_of, arcs}
 use Rattle.records.specs.Landings.{Heard, heard}
-use Rattle.records.specs.laws.Heard.{all_heard, heard_all}
-use Rattle.records.specs.laws.Appended.{arcs_append}
+use Rattle.records.proofs.laws.Heard.{all_heard, heard_all}
+use Rattle.records.proofs.laws.Appended.{arcs_append}
 use Rattle.reading.specs.Steps.{found_in}
 use Rattle.reading.specs.laws.Found.{found_item, found_read, found_end}
 use Rattle.sheet.specs.Verdict.{good, state_after, opening_of, reading, after_head, verdict}

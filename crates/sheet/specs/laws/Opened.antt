@@ -9,7 +9,7 @@ use Rattle.limits.specs.Marks.{mark_hd}
 use Rattle.answer.specs.declared.SheetFault.{SheetFault}
 use Rattle.number_fields.specs.Fields.{number8, number16}
 use Rattle.records.specs.Records.{head_fields, head_size}
-use Rattle.record_tests.specs.laws.Passed.{cond_both, enough}
+use Rattle.record_tests.proofs.laws.Passed.{cond_both, enough}
 use Rattle.sheet.specs.Verdict.{state_after, head_found, opening_of}
 use Rattle.records.specs.declared.fields.HeadFields.{HeadFields}
 use Rattle.reading.specs.declared.Reading.{Reading}

@@ -6,10 +6,10 @@ use Rattle.std.proofs.Math.Path.{◌≡◌, refl, sym}
 use Rattle.std.proofs.Common.{◌∙◌, append_assoc, append-nil, arith, length-append, length-drop}
 use Rattle.std.specs.Prelude.{List, [], ◌∷◌, ◌++◌, length, drop}
 use Rattle.answer.specs.declared.SheetFault.{SheetFault}
-use Rattle.subset.specs.Unions.{unions_more}
+use Rattle.subset.proofs.Unions.{unions_more}
 use Rattle.records.specs.Records.{record_bytes, sizes, head_size, size}
 use Rattle.records.specs.Landings.{heard_by}
-use Rattle.records.specs.laws.Appended.{size_low, sizes_append, count_more}
+use Rattle.records.proofs.laws.Appended.{size_low, sizes_append, count_more}
 use Rattle.reading.specs.Steps.{after, found_in}
 use Rattle.sheet.specs.Verdict.{good, bad, state_after, read_for, reading}
 use Rattle.records.specs.declared.record.Record.{Record}

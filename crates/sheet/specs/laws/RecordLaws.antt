@@ -12,7 +12,7 @@ use Rattle.number_fields.specs.laws.FieldLaws.{number16_bytes, number32_bytes, f
 use Rattle.records.specs.Records.{LinkOk, RecordOk, link_fields, head_bytes, record_bytes, end_bytes, head_size, size}
 use Rattle.records.specs.Arcs.{arcs_of}
 use Rattle.record_tests.specs.Tests.{link_tests, one_way_found, both_ways_found, landing_found, sender_found}
-use Rattle.record_tests.specs.laws.Passed.{LinkRead, ReadFrom, EndOk}
+use Rattle.record_tests.proofs.laws.Passed.{LinkRead, ReadFrom, EndOk}
 use Rattle.reading.specs.Steps.{found_in}
 use Rattle.sheet.specs.Verdict.{state_after, head_found, opening_of}
 use Rattle.sheet.specs.laws.Opened.{OpenedOk}

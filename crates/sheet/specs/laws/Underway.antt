@@ -8,7 +8,7 @@ use Rattle.limits.specs.Limits.{max_terminals, max_arcs}
 use Rattle.answer.specs.declared.SheetFault.{SheetFault}
 use Rattle.records.specs.Records.{sizes, head_size, size}
 use Rattle.records.specs.Arcs.{arcs}
-use Rattle.records.specs.laws.Appended.{size_low}
+use Rattle.records.proofs.laws.Appended.{size_low}
 use Rattle.reading.specs.Steps.{after, found_in, step_after, step_of}
 use Rattle.reading.specs.laws.Found.{found_item}
 use Rattle.sheet.specs.Verdict.{good, bad, state_after, opening_of, reading, after_head, verdict}

@@ -8,7 +8,7 @@ use Rattle.subset.specs.Sets.{single}
 use Rattle.subset.specs.laws.Parts.{part_le}
 use Rattle.order_ranges.specs.laws.Ranges.{Ordered, OneSize, Outside}
 use Rattle.cost_table.specs.Cells.{cell_in}
-use Rattle.cost_table.specs.laws.Rows.{place_lt}
+use Rattle.cost_table.proofs.laws.Rows.{place_lt}
 use Rattle.lanes.specs.declared.Four.{Four}
 use Rattle.lanes.specs.laws.Four.{nth}
 use Rattle.lanes.specs.laws.WriteFour.{LaneOf, NoLane, lane_or_none, write_rows, four_length, four_low, rows_set, rows_others}

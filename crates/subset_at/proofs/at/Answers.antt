@@ -1,7 +1,7 @@
 -- `at` meets its contract.
 -- Assumes nothing.
 use Rattle.std.proofs.Common.{sym, ◌∙◌, arith}
-use Rattle.order.specs.laws.Rule.{below}
+use Rattle.order.proofs.laws.Rule.{below}
 use Rattle.subset_at.specs.laws.Choices.{first_ways, first_set, all_chosen}
 use Rattle.subset_at.proofs.at.Goals as goal
 

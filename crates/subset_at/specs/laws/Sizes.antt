@@ -9,8 +9,8 @@ use Rattle.std.specs.Int.Count.{ones}
 use Rattle.std.proofs.lemmas.Nat.{ones-le}
 use Rattle.limits.specs.Limits.{max_terminals, max_subsets}
 use Rattle.arc_index.specs.Index.{place_of}
-use Rattle.arc_index.specs.laws.Places.{place_more, place_rises, place_le, last_place}
-use Rattle.arc_index.specs.laws.ByEnd.{group_entry, group_ends}
+use Rattle.arc_index.proofs.laws.Places.{place_more, place_rises, place_le, last_place}
+use Rattle.arc_index.proofs.laws.ByEnd.{group_entry, group_ends}
 use Rattle.order.specs.Order.{of_size}
 use Rattle.subset_at.specs.laws.Indexed.{order_index}
 use Rattle.subset_at.specs.laws.Stations.{set_at}

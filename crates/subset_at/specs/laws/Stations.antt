@@ -9,7 +9,7 @@ use Rattle.lists.specs.Count.{count, count_position}
 use Rattle.lists.specs.Every.{every_at}
 use Rattle.lists.specs.Sorted.{sorted_at}
 use Rattle.order.specs.Order.{order_by}
-use Rattle.order.specs.laws.BySize.{Before, once_order_by, length_order_by, every_order_by, sorted_order_by}
+use Rattle.order.proofs.laws.BySize.{Before, once_order_by, length_order_by, every_order_by, sorted_order_by}
 
 -- the set at a position of the order of k stations
 abbrev pub set_at : (k i : ℕ) → ℕ

@@ -1,7 +1,7 @@
 -- `uldhvamm_best_sender` meets its contract: it gives the enquirer's answer.
 -- Assumes nothing.
 use borrow.Author.Rules.{rules}
-use Rattle.c_values.specs.laws.Giving.{gives_same}
+use Rattle.c_values.proofs.laws.Giving.{gives_same}
 use Rattle.uldhvamm.proofs.uldhvamm_best_sender.Statement.{statement}
 use Rattle.uldhvamm.proofs.uldhvamm_best_sender.Tie as tie
 

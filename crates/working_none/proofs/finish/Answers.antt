@@ -12,10 +12,10 @@ loop-i-init c = (search rules, no_values)
 pub loop-i-preserved : goal.loop-i-preserved
 loop-i-preserved c =
     let new : c.if-cost-eq-WORKING_NONE.cost ≡ finished (get_or c.loop-i.cells c.loop-i.i 0) =
-        elim c.if-cost-eq-WORKING_NONE.branch [
-          then-cost-eq-WORKING_NONE w ↦ set_finished w.if-cost-eq-WORKING_NONE.true w.cost-is
-        | else-cost-eq-WORKING_NONE w ↦ kept_finished w.if-cost-eq-WORKING_NONE.false w.cost-is
-        ] in
+    elim c.if-cost-eq-WORKING_NONE.branch [
+      | then-cost-eq-WORKING_NONE w ↦ set_finished w.if-cost-eq-WORKING_NONE.true w.cost-is
+      | else-cost-eq-WORKING_NONE w ↦ kept_finished w.if-cost-eq-WORKING_NONE.false w.cost-is
+    ] in
     (omega (arith, c.loop-i.invariant.1.same_length, c.loop-i-test.true), next_value c.loop-i-test.true (new ∙ ap finished (later_value (omega arith) c.loop-i.invariant.1)) c.loop-i.invariant.1)
 
 pub returns : goal.returns

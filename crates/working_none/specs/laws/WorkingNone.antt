@@ -21,7 +21,6 @@ pub finished_by : {Is Not : Type 0} {x y : ℕ} → (Is → x ≡ working_none) 
 finished_by {Is} {Not} {x} is not (inl (t, e)) = e ∙ sym (ap (λ (b : Bool). cond b no_cost x) (eq-eqb x working_none (is t)))
 finished_by {Is} {Not} {x} is not (inr (t, e)) = e ∙ sym (ap (λ (b : Bool). cond b no_cost x) (ne_eqb x working_none (not t)))
 
-
 -- the same of each outcome of the comparison
 pub set_finished : {x y : ℕ} → x ≡ working_none → y ≡ no_cost → y ≡ finished x
 set_finished {x} is e = e ∙ sym (ap (λ (b : Bool). cond b no_cost x) (eq-eqb x working_none is))

@@ -2,7 +2,7 @@
 -- Assumes nothing.
 use Rattle.std.proofs.Common.{sym, lt-ltb, le-ltb}
 use Rattle.cost_table.specs.Cheapest.{sender_column}
-use Rattle.cost_table.specs.laws.Lowest.{chosen}
+use Rattle.cost_table.proofs.laws.Lowest.{chosen}
 use Rattle.cost_table.proofs.cheapest.cheaper.Goals as goal
 
 pub returns-then-sender_cell : goal.returns-then-sender_cell

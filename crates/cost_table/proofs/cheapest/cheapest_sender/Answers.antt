@@ -2,7 +2,7 @@
 -- Assumes nothing.
 use Rattle.std.proofs.Common.{◌-◌, arith}
 use Rattle.cost_table.specs.Cheapest.{sender_column}
-use Rattle.cost_table.specs.laws.Lowest.{lowest_one, lowest_next, lowest_all}
+use Rattle.cost_table.proofs.laws.Lowest.{lowest_one, lowest_next, lowest_all}
 use Rattle.cost_table.proofs.cheapest.cheapest_sender.Goals as goal
 
 pub loop-v-init : goal.loop-v-init

@@ -3,8 +3,8 @@
 use Rattle.std.proofs.Common.{sym, ◌∙◌}
 use Rattle.landing_entries.specs.Entries.{is_sender_at}
 use Rattle.cost_table.specs.Cheapest.{column_in}
-use Rattle.cost_table.specs.laws.Rows.{place_lt}
-use Rattle.cost_table.specs.laws.Senders.{sender_costs, other_costs}
+use Rattle.cost_table.proofs.laws.Rows.{place_lt}
+use Rattle.cost_table.proofs.laws.Senders.{sender_costs, other_costs}
 use Rattle.cost_table.proofs.cheapest.sender_cell.Goals as goal
 
 pub cell-requires : goal.cell-requires

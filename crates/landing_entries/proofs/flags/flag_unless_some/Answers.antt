@@ -1,7 +1,7 @@
 -- `landing_entries::flags::flag_unless_some` meets its contract. The test of the flags decides.
 -- Assumes nothing.
 use Rattle.std.proofs.Common.{sym, ◌∙◌}
-use Rattle.landing_entries.specs.laws.Flags.{none_flagged, some_flagged}
+use Rattle.landing_entries.proofs.laws.Flags.{none_flagged, some_flagged}
 use Rattle.landing_entries.proofs.flags.flag_unless_some.Goals as goal
 
 pub returns-then-has_sender : goal.returns-then-has_sender

@@ -1,6 +1,5 @@
 -- `layout::plan::follow` and `split` meet their contracts.
 -- Assumes nothing.
-use Rattle.std.proofs.Common.{sym}
 use Rattle.layout_walk.specs.laws.Walking.{walked_stored, stop_falls}
 use Rattle.layout.specs.laws.Splitting.{first_placed, first_falls, others_placed, others_falls, both_stored}
 use Rattle.layout.proofs.plan.+follow_split.Goals as goal

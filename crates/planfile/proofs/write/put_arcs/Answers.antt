@@ -4,7 +4,7 @@ use Rattle.std.proofs.Common.{ℕ, ◌-◌, refl, ap, ◌∙◌, List, take_all,
 use lib.Seq.{sets}
 use Rattle.lists.specs.Joined.{joined}
 use Rattle.planfile.specs.Format.{arc_bytes, file_size}
-use Rattle.planfile.specs.laws.WritingLaws.{put_arc_more}
+use Rattle.planfile.proofs.laws.WritingLaws.{put_arc_more}
 use Rattle.planfile.proofs.write.put_arcs.Goals as goal
 
 pub loop-i-init : goal.loop-i-init

@@ -4,7 +4,7 @@
 use Rattle.std.proofs.Common.{ℕ, ◌<◌, ◌^◌, arith}
 use Rattle.lists.specs.Every.{at_every}
 use Rattle.planfile.specs.laws.FormatLaws.{Fits}
-use Rattle.planfile.specs.laws.WritingLaws.{total_too_large, too_many_arcs, buffer_too_short, file_written}
+use Rattle.planfile.proofs.laws.WritingLaws.{total_too_large, too_many_arcs, buffer_too_short, file_written}
 use Rattle.planfile.proofs.write.write_plan.Goals as goal
 
 pub returns-then-total-gt-MAX_TOTAL : goal.returns-then-total-gt-MAX_TOTAL

@@ -2,9 +2,9 @@
 -- Assumes nothing.
 use Rattle.std.proofs.Common.{◌*◌, ◌^◌, ◌≤◌, ◌<◌, ◌≡◌, sym, ap, ◌∙◌, true, arith, length}
 use Rattle.answer.specs.Stated.{cell}
-use Rattle.cost_table.specs.laws.Rows.{place_lt}
+use Rattle.cost_table.proofs.laws.Rows.{place_lt}
 use Rattle.questions.specs.Questions.{in_range}
-use Rattle.questions.specs.laws.Tested.{Range, ranged, few_sets, table_limits, table_long, table_short, cell_head, cell_short, cell_site, cell_set, cell_stands}
+use Rattle.questions.proofs.laws.Tested.{Range, ranged, few_sets, table_limits, table_long, table_short, cell_head, cell_short, cell_site, cell_set, cell_stands}
 use Rattle.questions.proofs.cell_question.cell_in.Goals as goal
 
 pub returns-then-not-in_range : goal.returns-then-not-in_range

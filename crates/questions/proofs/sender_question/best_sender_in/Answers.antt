@@ -5,8 +5,8 @@ use Rattle.std.proofs.Common.{◌*◌, ◌^◌, ◌≤◌, ◌<◌, ◌≡◌, s
 use Rattle.landing_entries.specs.Entries.{is_sender_at}
 use Rattle.cost_table.specs.Cheapest.{column_in}
 use Rattle.questions.specs.Questions.{in_range, best_sender, sender_answer}
-use Rattle.questions.specs.laws.Tested.{Range, ranged, few_sets, table_limits, table_long, table_short, sender_head, sender_short, sender_few, sender_set, sender_stands}
-use Rattle.questions.specs.laws.Best.{best_named, best_none}
+use Rattle.questions.proofs.laws.Tested.{Range, ranged, few_sets, table_limits, table_long, table_short, sender_head, sender_short, sender_few, sender_set, sender_stands}
+use Rattle.questions.proofs.laws.Best.{best_named, best_none}
 use Rattle.questions.proofs.sender_question.best_sender_in.Goals as goal
 
 pub returns-then-not-in_range : goal.returns-then-not-in_range

@@ -1,6 +1,5 @@
 -- `reaching::passes::mark_all` meets its contract.
 -- Assumes nothing.
-use borrow.Author.Tests.{not-true, not-false}
 use Rattle.marking.specs.laws.MarkingLaws.{carried_none, same_within}
 use Rattle.reaching.specs.laws.Passing.{pass_carries, pass_falls, pass_completes}
 use Rattle.reaching.proofs.passes.mark_all.Goals as goal

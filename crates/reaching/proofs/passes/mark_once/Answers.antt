@@ -1,6 +1,6 @@
 -- `reaching::passes::mark_once` meets its contract.
 -- Assumes nothing.
-use Rattle.std.proofs.Common.{ℕ, ◌-◌, ◌≡◌, refl, sym, subst, ⊎_elim, arith, length, T, rules}
+use Rattle.std.proofs.Common.{ℕ, ◌-◌, ◌≡◌, refl, sym, subst, arith, length, T, rules}
 use Rattle.lists.specs.Listed.{listed}
 use Rattle.lists.specs.Numbers.{value_in}
 use Rattle.planfile.specs.Format.{listed_arc, arcs_to}
@@ -32,12 +32,12 @@ loop-i-preserved c =
     let pass = c.loop-i.invariant.1 in
     let b = c.loop-i.marked in
     elim c.if-mark_end.branch [
-      then-mark_end w ↦ (
+      | then-mark_end w ↦ (
         search rules,
         passing_arc _ _ _ _ c.requires.1 _ found (listed_arc a.file.now) _ _ _ _ _ c.mark_end.result _ refl c.arc_at-e.ensures pass c.mark_end.ensures
             (or_taken b w.if-mark_end.true w.marked-is),
       )
-    | else-mark_end w ↦ (
+      | else-mark_end w ↦ (
         search rules,
         passing_arc _ _ _ _ c.requires.1 _ found (listed_arc a.file.now) _ _ _ _ _ c.mark_end.result _ refl c.arc_at-e.ensures pass c.mark_end.ensures
             (or_left b w.if-mark_end.false w.marked-is),

@@ -1,6 +1,6 @@
 -- `sheet::judge::read_on` meets its contract.
 -- Assumes nothing.
-use Rattle.std.proofs.Common.{◌-◌, sym, ◌∙◌}
+use Rattle.std.proofs.Common.{sym, ◌∙◌}
 use Rattle.sheet.specs.laws.Underway.{ready, underway_next, falls}
 use Rattle.sheet.specs.laws.Judged.{judged_end, judged_fault_lem}
 use Rattle.sheet.proofs.judge.read_on.Goals as goal

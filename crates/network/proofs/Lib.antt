@@ -1,0 +1,2 @@
+pub mod HeldSheet
+pub mod laws

@@ -1,0 +1,5 @@
+-- the law beside the encoding
+pub mod Encoded
+-- laws of the format and of the writing
+pub mod FormatLaws
+pub mod WritingLaws
