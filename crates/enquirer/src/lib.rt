@@ -13,7 +13,7 @@ use questions::cell_question::cell_in;
 use questions::sender_question::best_sender_in;
 
 // A finished cost table for n sites and k stations.
-#[derive(Drop)]
+#[derive(Clone, Copy)]
 pub struct Enquirer<'a> {
     pub cells: &'a [Cost],
     pub n: u32,
