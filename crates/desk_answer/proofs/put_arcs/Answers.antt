@@ -48,6 +48,6 @@ loop-i-preserved c =
 
 pub returns : goal.returns
 returns c =
-    let end-of-loop : c.loop-i.i ≡ c.args.count = omega (arith, c.loop-i.invariant.0, c.loop-i-test.false) in
+    let end_of_loop : c.loop-i.i ≡ c.args.count = omega (arith, c.loop-i.invariant.0, c.loop-i-test.false) in
     let given = c.args in
-    let line = line_of given.starts.now given.ends.now given.weights.now in record { stored = stored_same (ap (λ (j : ℕ). joined line (arcs_to given.file.now j)) (end-of-loop)) c.loop-i.invariant.3; upper_bound = omega (arith, c.loop-i.invariant.0, c.loop-i.invariant.2) }
+    let line = line_of given.starts.now given.ends.now given.weights.now in record { stored = stored_same (ap (λ (j : ℕ). joined line (arcs_to given.file.now j)) end_of_loop) c.loop-i.invariant.3; upper_bound = omega (arith, c.loop-i.invariant.0, c.loop-i.invariant.2) }
