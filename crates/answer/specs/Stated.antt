@@ -1,7 +1,7 @@
 -- What document 01, "What is sent back", and document 02 return in each case: the values of a plan, of an acceptance or of the enquirer, or the
 -- family, the number and the place of a refusal. The promises of all entry points are stated with these definitions.
 -- Assumes nothing.
-use Rattle.std.specs.Prelude.{ℕ}
+use Rattle.std.specs.Prelude.{ℕ, Result, Ok, Err, Option, Some, None}
 use Rattle.limits.specs.Refusals.{short_sheet, strange_mark, bad_head, no_such_site, no_such_station, loop, bad_price, too_many_legs, after_the_end, unheard, short_tables, no_plan, short_buffer, cut_plan, bad_plan, unknown_number, no_tree, station_missed, false_total, not_a_sender}
 use Rattle.answer.specs.declared.SheetFault.{SheetFault}
 use Rattle.answer.specs.declared.SheetFault.TheVariants.{ShortSheet, StrangeMark, BadHead, NoSuchSite, NoSuchStation, Loop, BadPrice, TooManyLegs, AfterTheEnd, Unheard}
@@ -12,12 +12,8 @@ use Rattle.answer.specs.declared.PlanFault.{PlanFault}
 use Rattle.answer.specs.declared.PlanFault.TheVariants.{CutPlan, BadPlan, UnknownNumber, NoTree, StationMissed, FalseTotal, NotASender}
 use Rattle.answer.specs.declared.Refusal.{Refusal}
 use Rattle.answer.specs.declared.Refusal.TheVariants.{Sheet, Tables, Search, PlanFile}
-use Rattle.answer.specs.declared.Answer.{Answer}
-use Rattle.answer.specs.declared.Answer.TheVariants.{Plan, Refused}
-use Rattle.answer.specs.declared.Enquiry.{Enquiry}
-use Rattle.answer.specs.declared.Enquiry.TheVariants.{Cell, Sender, NoSender, Refused as RefusedEnquiry}
-use Rattle.answer.specs.declared.Sharing.{Sharing}
-use Rattle.answer.specs.declared.Sharing.TheVariants.{Shared, Refused as RefusedSharing}
+use Rattle.answer.specs.declared.Plan.{Plan}
+use Rattle.answer.specs.declared.Shared.{Shared}
 
 -- what caused a refusal
 pub data Family : Type 0 where
@@ -80,18 +76,21 @@ family_of (Search fault) = of_search
 family_of (PlanFile fault) = of_plan_file
 
 -- the answer of the engine or of the plan reader
-abbrev pub stated : Answer → Stated
-stated (Plan root total arcs) = plan root total arcs
-stated (Refused refusal) = stated_refusal refusal
+abbrev pub stated : Result Plan Refusal → Stated
+stated (Ok p) = plan p.root p.total p.arcs
+stated (Err refusal) = stated_refusal refusal
 
--- the answer of the enquirer
-abbrev pub stated_enquiry : Enquiry → Stated
-stated_enquiry (Cell cost) = cell cost
-stated_enquiry (Sender node) = sender node
-stated_enquiry NoSender = no_sender
-stated_enquiry (RefusedEnquiry refusal) = stated_refusal refusal
+-- the answers of the enquirer
+abbrev pub stated_cell : Result ℕ Refusal → Stated
+stated_cell (Ok cost) = cell cost
+stated_cell (Err refusal) = stated_refusal refusal
+
+abbrev pub stated_sender : Result (Option ℕ) Refusal → Stated
+stated_sender (Ok (Some node)) = sender node
+stated_sender (Ok None) = no_sender
+stated_sender (Err refusal) = stated_refusal refusal
 
 -- the answer to a request for shares
-abbrev pub stated_sharing : Sharing → Stated
-stated_sharing (Shared root total arcs unassigned) = shared root total arcs unassigned
-stated_sharing (RefusedSharing refusal) = stated_refusal refusal
+abbrev pub stated_sharing : Result Shared Refusal → Stated
+stated_sharing (Ok s) = shared s.root s.total s.arcs s.unassigned
+stated_sharing (Err refusal) = stated_refusal refusal
