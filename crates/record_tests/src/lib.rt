@@ -17,7 +17,16 @@ use subset::Subset;
 pub type Found = Result<Option<Record>, SheetFault>;
 
 // The tests of a link, in their order; `count` is the number of its legs.
-fn tested_link(at: usize, n: u16, arcs: u16, start: u16, end: u16, weight: u32, count: u16, item: Record) -> Found
+fn tested_link(
+    at: usize,
+    n: u16,
+    arcs: u16,
+    start: u16,
+    end: u16,
+    weight: u32,
+    count: u16,
+    item: Record,
+) -> Found
     requires { (arcs ≤ max_arcs) × (count ≤ 2) × (count ≡ length (arcs_of item)) }
     ensures { result ≡ link_tests at n arcs start end weight item }
 {
