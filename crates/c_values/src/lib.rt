@@ -2,10 +2,10 @@
 #![tactic(auto)]
 
 ghost use Rattle.std.specs.Prelude.{◌≡◌, set};
-ghost use Rattle.answer.specs.Stated.{stated, stated_enquiry, stated_sharing, stated_refusal};
+ghost use Rattle.answer.specs.Stated.{stated, stated_cell, stated_sender, stated_sharing, stated_refusal};
 ghost use Rattle.c_values.specs.Values.{Gives};
 
-use answer::{Answer, Enquiry, Refusal, Sharing, code_of};
+use answer::{Answer, CellAnswer, Plan, Refusal, SenderAnswer, Shared, Sharing, code_of};
 
 // In the place of a site: no site is a best sender.
 const NO_SENDER: u64 = 18446744073709551615;
@@ -25,16 +25,16 @@ fn give_refusal(refusal: Refusal, values: &mut [u64]) -> u32
 {
     let code = code_of(refusal);
     put(values, 0, code.place as u64);
-    code.number as u32
+    u32::from(code.number)
 }
 
 // Root, total and leg count of a plan.
 fn put_plan(root: u16, total: u64, arcs: u16, values: &mut [u64])
     ensures { values.new ≡ set (set (set values.old 0 root) 1 total) 2 arcs }
 {
-    put(values, 0, root as u64);
+    put(values, 0, u64::from(root));
     put(values, 1, total);
-    put(values, 2, arcs as u64);
+    put(values, 2, u64::from(arcs));
 }
 
 // Root, total and leg count of a plan, and 0; or the place of a refusal, and its number.
@@ -42,11 +42,11 @@ pub fn give(sent: Answer, values: &mut [u64]) -> u32
     ensures { Gives (stated sent) result values.old values.new }
 {
     match sent {
-        Answer::Plan { root, total, arcs } => {
+        Ok(Plan { root, total, arcs }) => {
             put_plan(root, total, arcs, values);
             0
         }
-        Answer::Refused(refusal) => give_refusal(refusal, values),
+        Err(refusal) => give_refusal(refusal, values),
     }
 }
 
@@ -55,17 +55,19 @@ pub fn give_sharing(sent: Sharing, values: &mut [u64]) -> u32
     ensures { Gives (stated_sharing sent) result values.old values.new }
 {
     match sent {
-        Sharing::Shared {
-            root,
-            total,
-            arcs,
-            unassigned,
-        } => {
+        Ok(
+            Shared {
+                root,
+                total,
+                arcs,
+                unassigned,
+            },
+        ) => {
             put_plan(root, total, arcs, values);
             put(values, 3, unassigned);
             0
         }
-        Sharing::Refused(refusal) => give_refusal(refusal, values),
+        Err(refusal) => give_refusal(refusal, values),
     }
 }
 
@@ -77,14 +79,23 @@ fn give_value(value: u64, values: &mut [u64]) -> u32
     0
 }
 
-// A cell, the site of a best sender, or `NO_SENDER`, and 0; or the place of a refusal, and its number.
-pub fn give_enquiry(sent: Enquiry, values: &mut [u64]) -> u32
-    ensures { Gives (stated_enquiry sent) result values.old values.new }
+// A cell, and 0; or the place of a refusal, and its number.
+pub fn give_cell(sent: CellAnswer, values: &mut [u64]) -> u32
+    ensures { Gives (stated_cell sent) result values.old values.new }
 {
     match sent {
-        Enquiry::Cell(cost) => give_value(cost, values),
-        Enquiry::Sender(node) => give_value(node as u64, values),
-        Enquiry::NoSender => give_value(NO_SENDER, values),
-        Enquiry::Refused(refusal) => give_refusal(refusal, values),
+        Ok(cost) => give_value(cost, values),
+        Err(refusal) => give_refusal(refusal, values),
+    }
+}
+
+// The site of a best sender, or `NO_SENDER`, and 0; or the place of a refusal, and its number.
+pub fn give_sender(sent: SenderAnswer, values: &mut [u64]) -> u32
+    ensures { Gives (stated_sender sent) result values.old values.new }
+{
+    match sent {
+        Ok(Some(node)) => give_value(u64::from(node), values),
+        Ok(None) => give_value(NO_SENDER, values),
+        Err(refusal) => give_refusal(refusal, values),
     }
 }
