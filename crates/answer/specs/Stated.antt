@@ -75,22 +75,32 @@ family_of (Tables fault) = of_tables
 family_of (Search fault) = of_search
 family_of (PlanFile fault) = of_plan_file
 
+-- an answer: what is stated of its value, or the refusal
+abbrev pub stated_as : {A : Type 0} → (A → Stated) → Result A Refusal → Stated
+stated_as value (Ok a) = value a
+stated_as value (Err refusal) = stated_refusal refusal
+
 -- the answer of the engine or of the plan reader
+abbrev pub stated_plan : Plan → Stated
+stated_plan p = plan p.root p.total p.arcs
+
 abbrev pub stated : Result Plan Refusal → Stated
-stated (Ok p) = plan p.root p.total p.arcs
-stated (Err refusal) = stated_refusal refusal
+stated = stated_as stated_plan
 
 -- the answers of the enquirer
 abbrev pub stated_cell : Result ℕ Refusal → Stated
-stated_cell (Ok cost) = cell cost
-stated_cell (Err refusal) = stated_refusal refusal
+stated_cell = stated_as cell
+
+abbrev pub stated_best : Option ℕ → Stated
+stated_best (Some node) = sender node
+stated_best None = no_sender
 
 abbrev pub stated_sender : Result (Option ℕ) Refusal → Stated
-stated_sender (Ok (Some node)) = sender node
-stated_sender (Ok None) = no_sender
-stated_sender (Err refusal) = stated_refusal refusal
+stated_sender = stated_as stated_best
 
 -- the answer to a request for shares
+abbrev pub stated_shares : Shared → Stated
+stated_shares s = shared s.root s.total s.arcs s.unassigned
+
 abbrev pub stated_sharing : Result Shared Refusal → Stated
-stated_sharing (Ok s) = shared s.root s.total s.arcs s.unassigned
-stated_sharing (Err refusal) = stated_refusal refusal
+stated_sharing = stated_as stated_shares
