@@ -15,13 +15,6 @@ use subset::Subset;
 // How many legs are looked at together where legs from other sites are passed over.
 const BLOCK: usize = 64;
 
-// What a search finds: a leg or a part, by its number.
-#[derive(Clone, Copy)]
-pub enum Found {
-    At(u16),
-    Nothing,
-}
-
 // "nothing is added when W is empty, or when W is one station and v is its landing"
 pub fn is_done(landings: &[u16], v: u16, w: Subset) -> bool
     requires { v < length landings.now }
@@ -56,10 +49,8 @@ fn block_has(starts: &[u16], from: usize, v: u16) -> bool
 {
     let end = from + BLOCK;
     let mut found = false;
-    let mut i = from;
-    while i < end {
-        found = found | (starts[i] == v);
-        i += 1;
+    for start in &starts[from..end] {
+        found = found | (*start == v);
     }
     found
 }
@@ -69,14 +60,12 @@ fn pass_blocks(starts: &[u16], arcs: usize, v: u16, from: usize) -> usize
     requires { (arcs ≤ length starts.now) × (from ≤ arcs) }
     ensures { PassedOver starts.now v from arcs result }
 {
-    let mut i = from;
-    while BLOCK <= arcs - i {
-        if block_has(starts, i, v) {
+    for i in (from..arcs).step_by(BLOCK) {
+        if arcs - i < BLOCK || block_has(starts, i, v) {
             return i;
         }
-        i += BLOCK;
     }
-    i
+    arcs
 }
 
 // The first leg, from `from` on, that starts at v, or the number of legs.
@@ -84,14 +73,12 @@ fn next_from(starts: &[u16], arcs: usize, v: u16, from: usize) -> usize
     requires { (arcs ≤ length starts.now) × (from ≤ arcs) }
     ensures { PassedOver starts.now v from arcs result }
 {
-    let mut i = pass_blocks(starts, arcs, v, from);
-    while i < arcs {
+    for i in pass_blocks(starts, arcs, v, from)..arcs {
         if starts[i] == v {
             return i;
         }
-        i += 1;
     }
-    i
+    arcs
 }
 
 // "the lowest-numbered leg from v whose price plus the finite cell (end, W) equals cell (v, W)"
@@ -104,7 +91,7 @@ pub fn fitting_arc(
     arcs: u16,
     v: u16,
     w: Subset,
-) -> Found
+) -> Option<u16>
     requires { ArcsHeld k arcs (arcs_alone starts.now ends.now weights.now) cells.now v w.0 }
     ensures { let t = arcs_alone starts.now ends.now weights.now in
         (result ≡ found_as (first (fits_in k arcs t cells.now v w.0) arcs)) }
@@ -115,9 +102,9 @@ pub fn fitting_arc(
     while i < end {
         let far = cell(cells, k, ends[i], w);
         if arc_fits(starts[i], weights[i], far, v, cost) {
-            return Found::At(i as u16);
+            return Some(i as u16);
         }
         i = next_from(starts, end, v, i + 1);
     }
-    Found::Nothing
+    None
 }
