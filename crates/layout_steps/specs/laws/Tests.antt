@@ -1,6 +1,6 @@
 -- The tests of one step: what they come to where the tables hold the values, and what the searches find.
 -- Assumes nothing.
-use Rattle.std.specs.Prelude.{Some, None, ℕ, ◌+◌, ◌^◌, ◌≤◌, ◌<◌, ◌≡◌, refl, ◌≢◌, ◌⊎◌, Bool, true, false, not, ◌&&◌, ◌||◌, List, T, eqb, ltb, get_or, take}
+use Rattle.std.specs.Prelude.{Some, None, ℕ, ◌+◌, ◌^◌, ◌<◌, ◌≡◌, refl, ◌≢◌, ◌⊎◌, Bool, true, false, not, ◌&&◌, ◌||◌, List, T, eqb, ltb, get_or, take}
 use Rattle.std.proofs.Common.{sym, ap, ap₂, ◌∙◌, subst, inl, inr, arith, add-zero, eq-eqb, ne_eqb, lt-ltb, le-ltb, eqb→eq, get_or-take}
 use Rattle.std.proofs.Math.Option.{Option, none, some}
 use Rattle.std.specs.Int.Count.{ones}
@@ -100,8 +100,8 @@ module _ (f : ℕ → Bool) where
   pub found_at : (n i : ℕ) → i < n → f i ≡ true → ((j : ℕ) → j < i → T (not (f j))) → Some i ≡ found_as (first f n)
   found_at n i l t before = sym (ap found_as (first_found f n i l (true_fact t) before))
 
-  pub found_nothing : (n i : ℕ) → n ≤ i → ((j : ℕ) → j < i → T (not (f j))) → None ≡ found_as (first f n)
-  found_nothing n i l before = sym (ap found_as (first_none f n (λ j h. before j (omega arith))))
+  pub found_nothing : (n : ℕ) → ((j : ℕ) → j < n → T (not (f j))) → None ≡ found_as (first f n)
+  found_nothing n before = sym (ap found_as (first_none f n before))
 
   pub not_yet : (i : ℕ) → f i ≡ false → ((j : ℕ) → j < i → T (not (f j))) → (j : ℕ) → j < i + 1 → T (not (f j))
   not_yet i t before = below_more (λ j. T (not (f j))) i before (false_not_fact t)
