@@ -11,7 +11,7 @@ returns-then-part_splits c =
     let a = c.args in
     let s = a.sheet in
     found_at (splits_in s.terminals s.cells.now a.v a.w.0) a.w.0 _ c.loop-y-test.true
-    (splits_at s.terminals s.cells.now a.v a.w.0 _ _ _ _ c.loop-y.auto.y c.cell-cost.ensures
+    (splits_at s.terminals s.cells.now a.v a.w.0 _ _ _ _ (omega (arith, c.loop-y.auto.y)) c.cell-cost.ensures
     c.part_splits.ensures c.if-part_splits.true) c.loop-y.invariant
 
 pub returns : goal.returns
