@@ -47,10 +47,8 @@ pub fn cheapest_sender(cells: &[Cost], landings: &[u16], n: u16, k: u8, w: Subse
     ensures { LowestTo (sender_column cells.now landings.now k w.0) n result }
 {
     let mut node = 0;
-    let mut v = 1;
-    while v < n {
+    for v in 1..n {
         node = cheaper(cells, landings, n, k, w, node, v);
-        v += 1;
     }
     node
 }

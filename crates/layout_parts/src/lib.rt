@@ -10,7 +10,7 @@ ghost use Rattle.layout_steps.specs.Steps.{found_as};
 ghost use Rattle.layout_parts.specs.Parts.{splits_in};
 
 use cost_table::cell;
-use layout_steps::Found;
+use layout_steps::CostedSheet;
 use limits::Cost;
 use subset::Subset;
 
@@ -36,17 +36,16 @@ fn part_splits(cells: &[Cost], k: u8, v: u16, w: Subset, y: Subset, cost: Cost) 
 }
 
 // "the lowest Y within W, neither empty nor W, with cell (v, Y) + cell (v, W without Y) = cell (v, W)"
-pub fn splitting_part(cells: &[Cost], k: u8, v: u16, w: Subset) -> Found
-    requires { (k ≤ max_terminals) × (v * 2 ^ k + w.0 < length cells.now) × (cell_in cells.now (2 ^ k) v w.0 < no_cost) }
-    ensures { result ≡ found_as (first (splits_in k cells.now v w.0) w.0) }
+pub fn splitting_part(sheet: CostedSheet, v: u16, w: Subset) -> Option<u16>
+    requires { let k = sheet.terminals in
+        ((k ≤ max_terminals) × (v * 2 ^ k + w.0 < length sheet.cells.now) × (cell_in sheet.cells.now (2 ^ k) v w.0 < no_cost)) }
+    ensures { let s = sheet.entry in (result ≡ found_as (first (splits_in s.terminals s.cells.now v w.0) w.0)) }
 {
-    let cost = cell(cells, k, v, w);
-    let mut y = 1;
-    while y < w.0 {
-        if part_splits(cells, k, v, w, Subset(y), cost) {
-            return Found::At(y);
+    let cost = cell(sheet.cells, sheet.terminals, v, w);
+    for y in 1..w.0 {
+        if part_splits(sheet.cells, sheet.terminals, v, w, Subset(y), cost) {
+            return Some(y);
         }
-        y += 1;
     }
-    Found::Nothing
+    None
 }

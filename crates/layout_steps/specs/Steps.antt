@@ -1,7 +1,7 @@
 -- The tests of one step of the layout, over what the tables hold (document 01, "Laying out a plan"). Each is a test of the graph in the tables;
 -- the parts of the graph that it does not look at are left empty.
 -- Assumes nothing.
-use Rattle.std.specs.Prelude.{ℕ, ◌+◌, ◌*◌, ◌^◌, ◌≤◌, ◌<◌, Bool, ◌&&◌, ◌||◌, List, eqb, ltb, length, get_or}
+use Rattle.std.specs.Prelude.{Some, None, ℕ, ◌+◌, ◌*◌, ◌^◌, ◌≤◌, ◌<◌, Bool, ◌&&◌, ◌||◌, List, eqb, ltb, length, get_or}
 use Rattle.std.proofs.Math.Option.{Option, none, some}
 use Rattle.std.specs.Int.Count.{ones}
 use Rattle.limits.specs.Limits.{max_terminals, no_cost}
@@ -11,8 +11,6 @@ use Rattle.lent_tables.specs.SheetTables.{SheetTables, Long}
 use Rattle.graph.specs.HeldGraph.{graph_in}
 use Rattle.graph.specs.Layout.{fits}
 use Rattle.cost_table.specs.Cells.{cell_in}
-use Rattle.layout_steps.specs.declared.Found.{Found}
-use Rattle.layout_steps.specs.declared.Found.TheVariants.{At, Nothing}
 
 -- nothing is added at a node with this landing entry: w is empty, or it is one terminal, and that has a landing there
 abbrev pub done_at : (entry w : ℕ) → Bool
@@ -26,10 +24,10 @@ values_fit start weight far v cost = eqb start v && (ltb far no_cost && eqb (wei
 abbrev pub fits_in : (k m : ℕ) → SheetTables → (cells : List ℕ) → (v w e : ℕ) → Bool
 fits_in k m t cells = fits (graph_in 0 k m t) (cell_in cells (2 ^ k)) no_cost
 
--- what a search gives, by the number found
-abbrev pub found_as : Option ℕ → Found
-found_as (some x) = At x
-found_as none = Nothing
+-- what a search gives in code, by the number found
+abbrev pub found_as : Option ℕ → Rattle.std.specs.Prelude.Option ℕ
+found_as (some x) = Some x
+found_as none = None
 
 -- the tables hold m arcs, and the cells of v and of each arc's end with w
 pub record ArcsHeld (k m : ℕ) (t : SheetTables) (cells : List ℕ) (v w : ℕ) : Type 0 where

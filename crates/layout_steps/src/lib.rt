@@ -1,10 +1,10 @@
 // The tests of one step of the layout at a site v with a set w: whether nothing is added, and which leg fits.
 #![tactic(auto)]
 
-ghost use Rattle.std.specs.Prelude.{◌≡◌, false, ◌+◌, ◌<◌, ◌≤◌, length, get_or};
+ghost use Rattle.std.specs.Prelude.{◌≡◌, false, ◌+◌, ◌<◌, ◌≤◌, length, get_or, MatchOption};
 ghost use Rattle.lists.specs.Find.{first};
-ghost use Rattle.lent_tables.specs.SheetTables.{arcs_alone};
 ghost use Rattle.layout_steps.specs.Steps.{done_at, values_fit, fits_in, found_as, ArcsHeld};
+ghost use Rattle.layout_steps.specs.Costed.{arc_tables_in};
 ghost use Rattle.layout_steps.specs.laws.Passing.{block_arcs, PassedOver};
 
 use cost_table::cell;
@@ -15,25 +15,17 @@ use subset::Subset;
 // How many legs are looked at together where legs from other sites are passed over.
 const BLOCK: usize = 64;
 
-// What a search finds: a leg or a part, by its number.
+// The tables of a sheet with so many sites, stations and legs, and its finished cost table.
 #[derive(Clone, Copy)]
-pub enum Found {
-    At(u16),
-    Nothing,
-}
-
-// "nothing is added when W is empty, or when W is one station and v is its landing"
-pub fn is_done(landings: &[u16], v: u16, w: Subset) -> bool
-    requires { v < length landings.now }
-    ensures { result ≡ done_at (get_or landings.now v 0) w.0 }
-{
-    if w.0 == 0 {
-        return true;
-    }
-    if w.size() != 1 {
-        return false;
-    }
-    w.is_part_of(terminals_in(landings[v as usize]))
+pub struct CostedSheet<'a> {
+    pub starts: &'a [u16],
+    pub ends: &'a [u16],
+    pub weights: &'a [u32],
+    pub landings: &'a [u16],
+    pub cells: &'a [Cost],
+    pub nodes: u16,
+    pub terminals: u8,
+    pub arcs: u16,
 }
 
 // Whether a leg with this start and price fits at v, where its end's cell is `far` and v's cell is `cost`. Only a finite cell is added to.
@@ -56,10 +48,8 @@ fn block_has(starts: &[u16], from: usize, v: u16) -> bool
 {
     let end = from + BLOCK;
     let mut found = false;
-    let mut i = from;
-    while i < end {
-        found = found | (starts[i] == v);
-        i += 1;
+    for start in &starts[from..end] {
+        found = found | (*start == v);
     }
     found
 }
@@ -69,55 +59,58 @@ fn pass_blocks(starts: &[u16], arcs: usize, v: u16, from: usize) -> usize
     requires { (arcs ≤ length starts.now) × (from ≤ arcs) }
     ensures { PassedOver starts.now v from arcs result }
 {
-    let mut i = from;
-    while BLOCK <= arcs - i {
-        if block_has(starts, i, v) {
+    for i in (from..arcs).step_by(BLOCK) {
+        if arcs - i < BLOCK || block_has(starts, i, v) {
             return i;
         }
-        i += BLOCK;
     }
-    i
+    arcs
 }
 
-// The first leg, from `from` on, that starts at v, or the number of legs.
-fn next_from(starts: &[u16], arcs: usize, v: u16, from: usize) -> usize
+// The first leg, from `from` on, that starts at v.
+fn next_from(starts: &[u16], arcs: usize, v: u16, from: usize) -> Option<usize>
     requires { (arcs ≤ length starts.now) × (from ≤ arcs) }
-    ensures { PassedOver starts.now v from arcs result }
+    ensures { MatchOption result (PassedOver starts.now v from arcs arcs) (λ i. (i < arcs) × PassedOver starts.now v from arcs i) }
 {
-    let mut i = pass_blocks(starts, arcs, v, from);
-    while i < arcs {
+    for i in pass_blocks(starts, arcs, v, from)..arcs {
         if starts[i] == v {
-            return i;
+            return Some(i);
         }
-        i += 1;
     }
-    i
+    None
 }
 
-// "the lowest-numbered leg from v whose price plus the finite cell (end, W) equals cell (v, W)"
-pub fn fitting_arc(
-    starts: &[u16],
-    ends: &[u16],
-    weights: &[u32],
-    cells: &[Cost],
-    k: u8,
-    arcs: u16,
-    v: u16,
-    w: Subset,
-) -> Found
-    requires { ArcsHeld k arcs (arcs_alone starts.now ends.now weights.now) cells.now v w.0 }
-    ensures { let t = arcs_alone starts.now ends.now weights.now in
-        (result ≡ found_as (first (fits_in k arcs t cells.now v w.0) arcs)) }
-{
-    let cost = cell(cells, k, v, w);
-    let end = arcs as usize;
-    let mut i = next_from(starts, end, v, 0);
-    while i < end {
-        let far = cell(cells, k, ends[i], w);
-        if arc_fits(starts[i], weights[i], far, v, cost) {
-            return Found::At(i as u16);
+impl<'a> CostedSheet<'a> {
+    // "nothing is added when W is empty, or when W is one station and v is its landing"
+    pub fn is_done(self, v: u16, w: Subset) -> bool
+        requires { v < length self.landings.now }
+        ensures { result ≡ done_at (get_or self.entry.landings.now v 0) w.0 }
+    {
+        if w.0 == 0 {
+            return true;
         }
-        i = next_from(starts, end, v, i + 1);
+        if w.size() != 1 {
+            return false;
+        }
+        w.is_part_of(terminals_in(self.landings[v as usize]))
     }
-    Found::Nothing
+
+    // "the lowest-numbered leg from v whose price plus the finite cell (end, W) equals cell (v, W)"
+    pub fn fitting_arc(self, v: u16, w: Subset) -> Option<u16>
+        requires { ArcsHeld self.terminals self.arcs (arc_tables_in self) self.cells.now v w.0 }
+        ensures { let s = self.entry in
+            (result ≡ found_as (first (fits_in s.terminals s.arcs (arc_tables_in s) s.cells.now v w.0) s.arcs)) }
+    {
+        let cost = cell(self.cells, self.terminals, v, w);
+        let end = self.arcs as usize;
+        let mut from = 0;
+        while let Some(i) = next_from(self.starts, end, v, from) {
+            let far = cell(self.cells, self.terminals, self.ends[i], w);
+            if arc_fits(self.starts[i], self.weights[i], far, v, cost) {
+                return Some(i as u16);
+            }
+            from = i + 1;
+        }
+        None
+    }
 }

@@ -8,6 +8,8 @@ use Rattle.graph.specs.HeldGraph.{graph_in}
 use Rattle.graph.specs.LeastTotals.{IsCostTable, Room}
 use Rattle.graph.specs.Layout.{layout}
 use Rattle.cost_table.specs.Cells.{cell_in}
+use Rattle.layout_steps.specs.Costed.{tables_in}
+use Rattle.layout_steps.specs.declared.CostedSheet.{CostedSheet}
 
 -- the cells of a graph's nodes and sets in a list
 abbrev pub cells_for : Graph → List ℕ → ℕ → ℕ → ℕ
@@ -30,3 +32,7 @@ pub record Ready (n k m : ℕ) (t : SheetTables) (cells : List ℕ) : Type 0 whe
   pub long : Long n m t
   pub long_cells : n * 2 ^ k ≤ length cells
   pub finished : Finished (graph_in n k m t) cells
+
+-- it for a sheet with its finished cost table
+abbrev pub ReadySheet : CostedSheet → Type 0
+ReadySheet s = Ready s.nodes s.terminals s.arcs (tables_in s) s.cells.now

@@ -8,15 +8,9 @@ ghost use Rattle.planfile.specs.Writing.{writing, writing_of};
 use crate::fields::{ARC_SIZE, HEAD_SIZE, file_size};
 use number_fields::{put_u16, put_u32};
 
-// The greatest total and the greatest leg count that fit their bytes.
-const MAX_TOTAL: u64 = u32::MAX as u64;
-
-const MAX_COUNT: usize = u16::MAX as usize;
-
-// What a writing gives: the length of the file that now stands in the buffer; a buffer too short; or a number that fits no field.
+// Why nothing is written: the buffer is too short for the file, or a number does not fit its bytes, so that there is no file.
 #[derive(Clone, Copy)]
-pub enum Written {
-    File(usize),
+pub enum WriteFault {
     ShortBuffer,
     NoFile,
 }
@@ -42,33 +36,36 @@ fn put_arc(buffer: &mut [u8], at: usize, arc: u16)
 }
 
 // A record for each leg, after the head.
+#[tactic(auto, using(crate::proofs::laws::WritingLaws::put_arc_more))]
 fn put_arcs(buffer: &mut [u8], arcs: &[u16])
     requires { file_size (length arcs.now) ≤ length buffer.old }
     ensures { buffer.new ≡ sets buffer.old (file_size 0) (joined arc_bytes arcs.now) }
 {
-    let mut i = 0;
-    while i < arcs.len() {
-        put_arc(buffer, HEAD_SIZE + ARC_SIZE * i, arcs[i]);
-        i += 1;
+    for (i, arc) in arcs.iter().enumerate() {
+        put_arc(buffer, HEAD_SIZE + ARC_SIZE * i, *arc);
     }
 }
 
-// The plan file, where every number fits its bytes and the buffer is long enough; else the buffer is untouched.
-pub fn write_plan(root: u16, total: u64, arcs: &[u16], buffer: &mut [u8]) -> Written
+// The plan file, and its length, where every number fits its bytes and the buffer is long enough; else the buffer is untouched.
+pub fn write_plan(
+    root: u16,
+    total: u64,
+    arcs: &[u16],
+    buffer: &mut [u8],
+) -> Result<usize, WriteFault>
     ensures { writing result buffer.new ≡ writing_of root total arcs.now buffer.old }
 {
-    if MAX_TOTAL < total {
-        return Written::NoFile;
-    }
-    if MAX_COUNT < arcs.len() {
-        return Written::NoFile;
-    }
-    let count = arcs.len() as u16;
+    let Ok(total) = u32::try_from(total) else {
+        return Err(WriteFault::NoFile);
+    };
+    let Ok(count) = u16::try_from(arcs.len()) else {
+        return Err(WriteFault::NoFile);
+    };
     let size = file_size(count);
     if buffer.len() < size {
-        return Written::ShortBuffer;
+        return Err(WriteFault::ShortBuffer);
     }
-    put_head(buffer, root, total as u32, count);
+    put_head(buffer, root, total, count);
     put_arcs(buffer, arcs);
-    Written::File(size)
+    Ok(size)
 }

@@ -1,6 +1,6 @@
 -- Splitting over lent tables, as code does it: what the answer of the search leads to. And the whole plan.
 -- Assumes nothing.
-use Rattle.std.specs.Prelude.{ℕ, ◌+◌, ◌-◌, ◌^◌, ◌≤◌, ◌<◌, ◌≡◌, List, ◌++◌, length}
+use Rattle.std.specs.Prelude.{Some, None, ℕ, ◌+◌, ◌-◌, ◌^◌, ◌≤◌, ◌<◌, ◌≡◌, List, ◌++◌, length}
 use Rattle.std.proofs.Common.{sym, ap, ◌∙◌, subst, arith}
 use Rattle.std.proofs.Math.Option.{some}
 use Rattle.std.proofs.Math.Pow.{ones_lt}
@@ -17,8 +17,6 @@ use Rattle.graph.proofs.Theorems.{layout_is_least}
 use Rattle.cost_table.specs.Cells.{cell_in}
 use Rattle.layout_steps.specs.Steps.{found_as}
 use Rattle.layout_steps.specs.laws.Tests.{found_some, found_none}
-use Rattle.layout_steps.specs.declared.Found.{Found}
-use Rattle.layout_steps.specs.declared.Found.TheVariants.{At, Nothing}
 use Rattle.layout_parts.specs.Parts.{splits_in}
 use Rattle.layout_walk.specs.Plan.{cells_for, laid, Ready}
 use Rattle.layout_walk.specs.laws.Walk.{Placed, Unfollowed, Stored}
@@ -33,15 +31,15 @@ module _ {n k m : ℕ} {t : SheetTables} {cells : List ℕ} (ready : Ready n k m
   -- ---- splitting
 
   module _ (out : List ℕ) {v w at : ℕ} (p : Placed G cells v w at (length out)) where
-    module _ (u : Unfollowed G cells v w) {found : Found} (search : found ≡ found_as (first (splits_in k cells v w) w)) where
+    module _ (u : Unfollowed G cells v w) where
       -- a part splits the set
-      pub split_found : found ≡ Nothing → ⊥
+      pub split_found : None ≡ found_as (first (splits_in k cells v w) w) → ⊥
       split_found nothing = part_there G cells ready.finished v w at (length out) p u.undone u.no_arc
-          (found_none (first (splits_in k cells v w) w) (sym nothing ∙ search))
+          (found_none (first (splits_in k cells v w) w) nothing)
 
-      module _ {y : ℕ} (part : found ≡ At y) where
+      module _ {y : ℕ} (part : Some y ≡ found_as (first (splits_in k cells v w) w)) where
         splitting : first (splits G (cells_for G cells) v w) w ≡ some y
-        splitting = found_some (first (splits_in k cells v w) w) y (sym part ∙ search)
+        splitting = found_some (first (splits_in k cells v w) w) y part
 
         pub first_placed : Placed G cells v y at (length out)
         first_placed = part_placed G cells ready.finished v w at (length out) p u.undone u.no_arc y splitting

@@ -1,26 +1,11 @@
 -- `layout_parts::part_splits` meets its contract. Each return has the tests that led to it.
 -- Assumes nothing.
-use Rattle.std.proofs.Common.{ℕ, ◌+◌, ◌^◌, ◌≡◌, sym, ap, ap₂, ◌∙◌, inl, inr, true, eqb}
-use Rattle.lists.specs.Tests.{and_fails, and_passes}
+use Rattle.std.proofs.Common.{ℕ, ◌+◌, ◌^◌, ◌≡◌, sym, ap, ap₂, ◌∙◌, inr, true, eqb}
+use Rattle.lists.specs.Tests.{and_passes}
 use Rattle.subset.specs.Sets.{is_part}
 use Rattle.cost_table.specs.Cells.{cell_in}
-use Rattle.layout_parts.specs.laws.PartTests.{none_no_split, part_in, rest_of}
+use Rattle.layout_parts.specs.laws.PartTests.{none_no_split, rest_of}
 use Rattle.layout_parts.proofs.part_splits.Goals as goal
-
-pub returns-then-not-is_part_of : goal.returns-then-not-is_part_of
-returns-then-not-is_part_of c = sym (and_fails _ _ (sym c.is_part_of.ensures ∙ c.if-not-is_part_of.true))
-
-pub cell-part-requires : goal.cell-part-requires
-cell-part-requires c =
-    let p = c.requires in
-    let a = c.args in
-    (p.0, part_in (2 ^ a.k) a.y.0 a.w.0 a.v _ (sym c.is_part_of.ensures ∙ c.if-not-is_part_of.false) p.1)
-
-pub returns-then-part : goal.returns-then-part
-returns-then-part c =
-    let a = c.args in
-    let part : is_part a.y.0 a.w.0 ≡ true = sym c.is_part_of.ensures ∙ c.if-not-is_part_of.false in
-    sym (none_no_split a.y.0 a.w.0 _ _ a.cost part c.requires.2 (inl (sym c.cell-part.ensures ∙ c.if-part.true)))
 
 pub returns-then-rest : goal.returns-then-rest
 returns-then-rest c =

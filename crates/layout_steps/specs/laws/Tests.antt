@@ -1,6 +1,6 @@
 -- The tests of one step: what they come to where the tables hold the values, and what the searches find.
 -- Assumes nothing.
-use Rattle.std.specs.Prelude.{ℕ, ◌+◌, ◌^◌, ◌≤◌, ◌<◌, ◌≡◌, refl, ◌≢◌, ◌⊎◌, Bool, true, false, not, ◌&&◌, ◌||◌, List, T, eqb, ltb, get_or, take}
+use Rattle.std.specs.Prelude.{Some, None, ℕ, ◌+◌, ◌^◌, ◌<◌, ◌≡◌, refl, ◌≢◌, ◌⊎◌, Bool, true, false, not, ◌&&◌, ◌||◌, List, T, eqb, ltb, get_or, take}
 use Rattle.std.proofs.Common.{sym, ap, ap₂, ◌∙◌, subst, inl, inr, arith, add-zero, eq-eqb, ne_eqb, lt-ltb, le-ltb, eqb→eq, get_or-take}
 use Rattle.std.proofs.Math.Option.{Option, none, some}
 use Rattle.std.specs.Int.Count.{ones}
@@ -20,7 +20,6 @@ use Rattle.graph.specs.Layout.{is_done}
 use Rattle.graph.proofs.laws.LayoutRule.{done_facts, facts_done}
 use Rattle.cost_table.specs.Cells.{cell_in}
 use Rattle.layout_steps.specs.Steps.{done_at, values_fit, fits_in, found_as}
-use Rattle.layout_steps.specs.declared.Found.TheVariants.{At, Nothing}
 
 -- ---- nothing is added
 
@@ -98,20 +97,20 @@ module _ (k m : ℕ) (t : SheetTables) (cells : List ℕ) (v w : ℕ) where
 
 module _ (f : ℕ → Bool) where
   -- the number at which it stops is the lowest that passes
-  pub found_at : (n i : ℕ) → i < n → f i ≡ true → ((j : ℕ) → j < i → T (not (f j))) → At i ≡ found_as (first f n)
+  pub found_at : (n i : ℕ) → i < n → f i ≡ true → ((j : ℕ) → j < i → T (not (f j))) → Some i ≡ found_as (first f n)
   found_at n i l t before = sym (ap found_as (first_found f n i l (true_fact t) before))
 
-  pub found_nothing : (n i : ℕ) → n ≤ i → ((j : ℕ) → j < i → T (not (f j))) → Nothing ≡ found_as (first f n)
-  found_nothing n i l before = sym (ap found_as (first_none f n (λ j h. before j (omega arith))))
+  pub found_nothing : (n : ℕ) → ((j : ℕ) → j < n → T (not (f j))) → None ≡ found_as (first f n)
+  found_nothing n before = sym (ap found_as (first_none f n before))
 
   pub not_yet : (i : ℕ) → f i ≡ false → ((j : ℕ) → j < i → T (not (f j))) → (j : ℕ) → j < i + 1 → T (not (f j))
   not_yet i t before = below_more (λ j. T (not (f j))) i before (false_not_fact t)
 
 -- what was found, by the search's answer
-pub found_some : (o : Option ℕ) (x : ℕ) → At x ≡ found_as o → o ≡ some x
+pub found_some : (o : Option ℕ) (x : ℕ) → Some x ≡ found_as o → o ≡ some x
 found_some none x e = let z : ◌≡◌ {A = ℕ} 0 1 = cc e in absurd (omega arith)
 found_some (some y) x e = cc e
 
-pub found_none : (o : Option ℕ) → Nothing ≡ found_as o → o ≡ none
+pub found_none : (o : Option ℕ) → None ≡ found_as o → o ≡ none
 found_none none e = refl
 found_none (some y) e = let z : ◌≡◌ {A = ℕ} 0 1 = cc e in absurd (omega arith)

@@ -1,8 +1,7 @@
 -- Following over lent tables, as code does it: what the answers of the test and the search lead to.
 -- Assumes nothing.
-use Rattle.std.specs.Prelude.{ℕ, ◌+◌, ◌*◌, ◌^◌, ◌<◌, ◌≡◌, Bool, true, false, not, List, T, length, get_or, set}
-use Rattle.std.proofs.Common.{sym, ◌∙◌, subst, true≢false, lt_of_lt_of_le}
-use Rattle.std.proofs.lemmas.Bool.{false≢true}
+use Rattle.std.specs.Prelude.{Some, None, ℕ, ◌+◌, ◌*◌, ◌^◌, ◌<◌, ◌≡◌, Bool, true, false, not, List, T, length, get_or, set}
+use Rattle.std.proofs.Common.{sym, ◌∙◌, subst, lt_of_lt_of_le}
 use Rattle.std.proofs.Math.Option.{some}
 use Rattle.std.proofs.Math.Arith.{digits_lt}
 use Rattle.limits.specs.Limits.{no_cost}
@@ -14,12 +13,10 @@ use Rattle.graph.specs.HeldGraph.{graph_in, end_in}
 use Rattle.graph.specs.Layout.{is_done, fits}
 use Rattle.layout_steps.specs.Steps.{done_at, fits_in, found_as, ArcsHeld}
 use Rattle.layout_steps.specs.laws.Tests.{done_in, found_some, found_none}
-use Rattle.layout_steps.specs.declared.Found.{Found}
-use Rattle.layout_steps.specs.declared.Found.TheVariants.{At, Nothing}
-use Rattle.layout_walk.specs.Plan.{cells_for, Ready}
-use Rattle.layout_walk.specs.laws.Walk.{Walked, Stopped}
+use Rattle.layout_walk.specs.Plan.{cells_for, laid, Ready}
+use Rattle.layout_walk.specs.laws.Walk.{Unfollowed, Stored, Walked}
 use Rattle.layout_walk.specs.laws.Arcs.{load, arc_on, arc_room, arc_falls}
-use Rattle.layout_walk.specs.laws.Walking.{walked_arc}
+use Rattle.layout_walk.specs.laws.Walking.{walked_arc, done_stored}
 
 module _ {n k m : ℕ} {t : SheetTables} {cells : List ℕ} (ready : Ready n k m t cells) where
   -- the graph that the tables hold
@@ -52,17 +49,17 @@ module _ {n k m : ℕ} {t : SheetTables} {cells : List ℕ} (ready : Ready n k m
       same_test b is = done_in n k m t node w h.placed.node h.placed.set ∙ sym test ∙ is
 
       -- nothing is added
-      pub walk_ends : done ≡ true → Stopped G cells v w at out then node place true
-      walk_ends is = record { walked = h; ended = λ _. true_fact (same_test true is); unfollowed = λ q. absurd (true≢false q) }
+      pub walk_ends : done ≡ true → Stored (laid G cells v w) at place out then
+      walk_ends is = done_stored G cells v w at out then node place h ready.finished (true_fact (same_test true is))
 
-      module _ (more : done ≡ false) {found : Found} (search : found ≡ found_as (first (fits_in k m (arc_tables_of t) cells node w) m)) where
+      module _ (more : done ≡ false) where
         undone : T (not (is_done G node w))
         undone = false_not_fact (same_test false more)
 
         -- an arc is followed
-        module _ {e : ℕ} (arc : found ≡ At e) where
+        module _ {e : ℕ} (found : Some e ≡ found_as (first (fits_in k m (arc_tables_of t) cells node w) m)) where
           fitting : first (fits G (cells_for G cells) no_cost node w) m ≡ some e
-          fitting = found_some (first (fits_in k m (arc_tables_of t) cells node w) m) e (sym arc ∙ search)
+          fitting = found_some (first (fits_in k m (arc_tables_of t) cells node w) m) e found
 
           pub arc_held : e < m
           arc_held = arc_on G cells ready.finished node w place (length then) h.placed undone e fitting
@@ -82,12 +79,5 @@ module _ {n k m : ℕ} {t : SheetTables} {cells : List ℕ} (ready : Ready n k m
               (arc_falls G cells ready.finished node w place (length then) h.placed undone e fitting)
 
         -- no arc fits
-        pub walk_stops : found ≡ Nothing → Stopped G cells v w at out then node place false
-        walk_stops nothing = record {
-          walked = h;
-          ended = λ q. absurd (false≢true q);
-          unfollowed = λ _. record {
-            undone = undone;
-            no_arc = found_none (first (fits_in k m (arc_tables_of t) cells node w) m) (sym nothing ∙ search);
-          };
-        }
+        pub walk_stops : None ≡ found_as (first (fits_in k m (arc_tables_of t) cells node w) m) → Unfollowed G cells node w
+        walk_stops found = record { undone = undone; no_arc = found_none (first (fits_in k m (arc_tables_of t) cells node w) m) found }

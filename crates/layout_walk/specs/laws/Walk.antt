@@ -1,7 +1,7 @@
 -- Arcs as they are listed in a table from a place on, and a walk along fitting arcs: the arcs that are followed from a node on (document 01,
 -- "Laying out a plan": "its end is followed with W").
 -- Assumes nothing.
-use Rattle.std.specs.Prelude.{ℕ, ◌≤◌, ◌+◌, ◌^◌, ◌<◌, ◌≡◌, Bool, true, false, not, List, ◌++◌, T, length}
+use Rattle.std.specs.Prelude.{ℕ, ◌≤◌, ◌+◌, ◌^◌, ◌<◌, ◌≡◌, not, List, ◌++◌, T, length}
 use Rattle.std.proofs.Math.Option.{none}
 use Rattle.std.proofs.lemmas.List.Edits.{sets}
 use Rattle.limits.specs.Limits.{no_cost}
@@ -34,9 +34,3 @@ pub record Walked (G : Graph) (cells : List ℕ) (v w at : ℕ) (out out' : List
   pub left : laid G cells v w ≡ arcs ++ laid G cells node w
   pub placed : Placed G cells node w place (length out')
   pub cheap : cells_for G cells node w ≤ cells_for G cells v w
-
--- a walk that stops at a node: nothing is added there, or no arc fits
-pub record Stopped (G : Graph) (cells : List ℕ) (v w at : ℕ) (out out' : List ℕ) (node place : ℕ) (done : Bool) : Type 0 where
-  pub walked : Walked G cells v w at out out' node place
-  pub ended : done ≡ true → T (is_done G node w)
-  pub unfollowed : done ≡ false → Unfollowed G cells node w

@@ -1,6 +1,6 @@
 -- A walk along fitting arcs, one arc at a time: what is listed, and what it leaves to list.
 -- Assumes nothing.
-use Rattle.std.specs.Prelude.{ℕ, ◌+◌, ◌<◌, ◌≡◌, refl, Bool, true, not, List, [], ◌∷◌, ◌++◌, T, length, set}
+use Rattle.std.specs.Prelude.{ℕ, ◌+◌, ◌<◌, ◌≡◌, refl, not, List, [], ◌∷◌, ◌++◌, T, length, set}
 use Rattle.std.proofs.Common.{sym, ap, ◌∙◌, subst, append_assoc, arith, length-set}
 use Rattle.std.proofs.Math.Option.{some}
 use Rattle.limits.specs.Limits.{no_cost}
@@ -9,7 +9,7 @@ use Rattle.graph.specs.Graph.{Graph}
 use Rattle.graph.specs.Layout.{is_done, fits}
 use Rattle.graph.proofs.Theorems.{following_falls}
 use Rattle.layout_walk.specs.Plan.{cells_for, laid, Finished}
-use Rattle.layout_walk.specs.laws.Walk.{Placed, Stored, Walked, Stopped}
+use Rattle.layout_walk.specs.laws.Walk.{Placed, Stored, Walked}
 use Rattle.layout_walk.specs.laws.Arcs.{load, stored_nothing, stored_one, stored_both, stored_length, nothing_laid, arc_laid, arc_placed}
 
 -- before the first arc
@@ -44,15 +44,14 @@ module _ (G : Graph) (cells : List ℕ) (v w at : ℕ) (out then : List ℕ) (no
     cheap = omega (arith, h.cheap, following_falls G f.sound (cells_for G cells) no_cost node w e q);
   }
 
-module _ (G : Graph) (cells : List ℕ) (v w at : ℕ) (out then : List ℕ) (node place : ℕ) (done : Bool)
-    (s : Stopped G cells v w at out then node place done) where
+module _ (G : Graph) (cells : List ℕ) (v w at : ℕ) (out then : List ℕ) (node place : ℕ) (h : Walked G cells v w at out then node place) where
   -- where the walk ends at a node at which nothing is added, all is listed
-  pub stop_stored : Finished G cells → done ≡ true → Stored (laid G cells v w) at place out then
-  stop_stored f t = walked_stored G cells v w at out then node place s.walked place then
-      (stored_nothing (laid G cells node w) place then (nothing_laid G cells f node w (s.ended t)))
+  pub done_stored : Finished G cells → T (is_done G node w) → Stored (laid G cells v w) at place out then
+  done_stored f t = walked_stored G cells v w at out then node place h place then
+      (stored_nothing (laid G cells node w) place then (nothing_laid G cells f node w t))
 
   -- splitting at the node comes after following from v on
-  pub stop_falls : (t : ℕ) → load G.terminals cells v w + load G.terminals cells v w + 1 ≡ t
+  pub stuck_falls : (t : ℕ) → load G.terminals cells v w + load G.terminals cells v w + 1 ≡ t
       → load G.terminals cells node w + load G.terminals cells node w < t
   unfolding load
-  stop_falls t m = omega (arith, s.walked.cheap)
+  stuck_falls t m = omega (arith, h.cheap)

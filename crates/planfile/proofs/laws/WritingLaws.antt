@@ -1,6 +1,6 @@
 -- Laws of the writing: what the stores of a record and of a whole file leave in the buffer, and what each outcome is.
 -- Assumes nothing.
-use Rattle.std.specs.Prelude.{ℕ, ◌+◌, ◌≤◌, ◌<◌, ◌^◌, ◌≡◌, refl, Bool, true, false, cond, List, [], ◌∷◌, length, get_or, take, T, leb}
+use Rattle.std.specs.Prelude.{Ok, Err, ℕ, ◌+◌, ◌≤◌, ◌<◌, ◌^◌, ◌≡◌, refl, Bool, true, false, cond, List, [], ◌∷◌, length, get_or, take, T, leb}
 use Rattle.std.proofs.Common.{sym, ap, ap₂, ◌∙◌, add-one, arith, take-suc, length-take-le, le-leb}
 use Rattle.std.proofs.Math.Option.{Option, none, some}
 use Rattle.std.proofs.lemmas.List.Edits.{sets}
@@ -13,7 +13,7 @@ use Rattle.planfile.specs.Format.{head_bytes, arc_bytes, file_bytes, fits, file_
 use Rattle.planfile.specs.laws.FormatLaws.{Fits}
 use Rattle.planfile.proofs.laws.FormatLaws.{passed_fits, fits_encoding, length_file}
 use Rattle.planfile.specs.Writing.{writing, written_over, writing_of}
-use Rattle.planfile.specs.declared.write.Written.TheVariants.{File, ShortBuffer, NoFile}
+use Rattle.planfile.specs.declared.write.WriteFault.TheVariants.{ShortBuffer, NoFile}
 
 -- ---- stores
 
@@ -33,15 +33,15 @@ put_arc_more arcs l l' l'' i h before after =
 
 module _ (root total : ℕ) (arcs buffer : List ℕ) where
   -- no file, where the total or the leg count does not fit
-  none_written : (T (fits root total arcs) → ⊥) → writing NoFile buffer ≡ writing_of root total arcs buffer
+  none_written : (T (fits root total arcs) → ⊥) → writing (Err NoFile) buffer ≡ writing_of root total arcs buffer
   none_written n =
-      by_fact (fits root total arcs) (λ b. writing NoFile buffer ≡ written_over (cond b (some (file_bytes root total arcs)) none) buffer)
+      by_fact (fits root total arcs) (λ b. writing (Err NoFile) buffer ≡ written_over (cond b (some (file_bytes root total arcs)) none) buffer)
       (λ t. absurd (n t)) (λ t. refl)
 
-  pub total_too_large : 2 ^ 32 ≤ total → writing NoFile buffer ≡ writing_of root total arcs buffer
+  pub total_too_large : 2 ^ 32 ≤ total → writing (Err NoFile) buffer ≡ writing_of root total arcs buffer
   total_too_large h = none_written (λ t. let f = passed_fits root total arcs t in absurd (omega (arith, f.total_fits)))
 
-  pub too_many_arcs : 2 ^ 16 ≤ length arcs → writing NoFile buffer ≡ writing_of root total arcs buffer
+  pub too_many_arcs : 2 ^ 16 ≤ length arcs → writing (Err NoFile) buffer ≡ writing_of root total arcs buffer
   too_many_arcs h = none_written (λ t. let f = passed_fits root total arcs t in absurd (omega (arith, f.count_fits)))
 
   -- everything fits, and the size of the file is compared with the length of the buffer
@@ -53,20 +53,20 @@ module _ (root total : ℕ) (arcs buffer : List ℕ) where
     length_is = length_file root total arcs ∙ sym size_is
 
     by_length : (b : Bool) → leb (length file) (length buffer) ≡ b
-        → cond b (writing (File (length file)) (over file buffer)) (writing ShortBuffer buffer) ≡ writing_of root total arcs buffer
+        → cond b (writing (Ok (length file)) (over file buffer)) (writing (Err ShortBuffer) buffer) ≡ writing_of root total arcs buffer
     by_length b e =
         sym (ap (λ (o : Option (List ℕ)). written_over o buffer) (fits_encoding root total arcs each_Fits)
-        ∙ ap (λ (t : Bool). cond t (writing (File (length file)) (over file buffer)) (writing ShortBuffer buffer)) e)
+        ∙ ap (λ (t : Bool). cond t (writing (Ok (length file)) (over file buffer)) (writing (Err ShortBuffer) buffer)) e)
 
     -- the buffer is too short
-    pub buffer_too_short : length buffer < size → writing ShortBuffer buffer ≡ writing_of root total arcs buffer
+    pub buffer_too_short : length buffer < size → writing (Err ShortBuffer) buffer ≡ writing_of root total arcs buffer
     buffer_too_short h = by_length false (lt-leb (length file) (length buffer) (omega (arith, length_is)))
 
     -- it is long enough, and the head and then the records are stored
     pub file_written : size ≤ length buffer → (l l' : List ℕ) → l ≡ sets buffer 0 (head_bytes root total (length arcs))
-        → l' ≡ sets l (file_size 0) (joined arc_bytes arcs) → writing (File size) l' ≡ writing_of root total arcs buffer
+        → l' ≡ sets l (file_size 0) (joined arc_bytes arcs) → writing (Ok size) l' ≡ writing_of root total arcs buffer
     file_written h l l' head records =
-        ap₂ (λ (n : ℕ) (t : List ℕ). writing (File n) t) (sym length_is) stored
+        ap₂ (λ (n : ℕ) (t : List ℕ). writing (Ok n) t) (sym length_is) stored
         ∙ by_length true (le-leb (length file) (length buffer) (omega (arith, length_is)))
       where
         stored : l' ≡ over file buffer
