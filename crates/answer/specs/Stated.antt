@@ -100,7 +100,7 @@ stated_sender = stated_as stated_best
 
 -- the answer to a request for shares
 abbrev pub stated_shares : Shared → Stated
-stated_shares s = shared s.root s.total s.arcs s.unassigned
+stated_shares s = shared s.plan.root s.plan.total s.plan.arcs s.unassigned
 
 abbrev pub stated_sharing : Result Shared Refusal → Stated
 stated_sharing = stated_as stated_shares

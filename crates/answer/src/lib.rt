@@ -66,9 +66,7 @@ pub struct Plan {
 // An accepted plan file with its shares: what stands in the file, and the sum that no station pays.
 #[derive(Clone, Copy)]
 pub struct Shared {
-    pub root: u16,
-    pub total: u64,
-    pub arcs: u16,
+    pub plan: Plan,
     pub unassigned: u64,
 }
 

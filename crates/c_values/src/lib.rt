@@ -53,9 +53,7 @@ impl Given for Shared {
     ghost zero = { λ x. refl };
 
     fn put(self, values: &mut [u64]) {
-        put(values, 0, u64::from(self.root));
-        put(values, 1, self.total);
-        put(values, 2, u64::from(self.arcs));
+        self.plan.put(values);
         put(values, 3, self.unassigned);
     }
 }

@@ -168,7 +168,7 @@ enquiry_one_to_one (Err a) (Err b) same = (a, refl, ap Err (sym (refusal_one_to_
 
 find_sharing : Stated → Result Shared Refusal
 find_sharing =
-    find (λ _ _ _. refused_any) (λ root total arcs unassigned. Ok (record { root = root; total = total; arcs = arcs; unassigned = unassigned })) (λ _. refused_any) (λ _. refused_any) refused_any Err
+    find (λ _ _ _. refused_any) (λ root total arcs unassigned. Ok (record { plan = record { root = root; total = total; arcs = arcs }; unassigned = unassigned })) (λ _. refused_any) (λ _. refused_any) refused_any Err
 
 sharing_found : (a : Result Shared Refusal) → find_sharing (stated_sharing a) ≡ a
 unfolding find_sharing find
