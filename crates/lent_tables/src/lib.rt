@@ -44,9 +44,8 @@ impl FurtherLengths {
         ensures { result ≡ share_lengths marks shares }
     {
         FurtherLengths {
-            marks: Some(marks),
             shares: Some(shares),
-            ..FurtherLengths::NONE
+            ..FurtherLengths::of_marks(marks)
         }
     }
 
@@ -58,8 +57,7 @@ impl FurtherLengths {
             by_end: Some(by_end),
             places: Some(places),
             cells: Some(cells),
-            marks: Some(marks),
-            shares: None,
+            ..FurtherLengths::of_marks(marks)
         }
     }
 }
