@@ -15,13 +15,9 @@ pub const WORKING_NONE: Cost = 1_073_741_823;
 pub fn finish(cells: &mut [Cost])
     ensures { cells.new ≡ map (λ i. finished (entry cells.old i)) (numbers 0 (length cells.old)) }
 {
-    let mut i = 0;
-    while i < cells.len() {
-        let mut cost = cells[i];
-        if cost == WORKING_NONE {
-            cost = limits::NO_COST;
+    for cost in cells.iter_mut() {
+        if *cost == WORKING_NONE {
+            *cost = limits::NO_COST;
         }
-        cells[i] = cost;
-        i += 1;
     }
 }
