@@ -5,29 +5,29 @@
 ghost use Rattle.std.specs.Prelude.{◌≡◌, false, ℕ, ◌<◌, ◌≤◌, length};
 ghost use Rattle.limits.specs.Limits.{max_subsets};
 ghost use Rattle.lent_tables.specs.SheetTables.{arcs_alone};
-ghost use Rattle.lanes.specs.laws.Four.{nth_number};
+ghost use Rattle.lanes.specs.laws.Four.{nth};
 ghost use Rattle.order_ranges.specs.laws.Ranges.{Ordered, OneSize, entry_of};
 ghost use Rattle.columns.specs.laws.Searched.{Tables};
 ghost use Rattle.columns.specs.laws.ClosedCells.{FourClosed, SetsClosed, NextFour};
 ghost use Rattle.columns.specs.laws.NoneFinite.{AllNone};
 
-use lanes::{FourNumbers, four_from, give_columns, take_columns};
+use lanes::{Four, four_from, give_columns, take_columns};
 use limits::Cost;
 use settling::settle;
 use turns::lower_by_turns;
 use working_none::WORKING_NONE;
 
 // The sets at four positions from `position` on; past the last one before `last`, that one again.
-fn sets_at(sets: &[u16], position: usize, last: usize) -> FourNumbers
+fn sets_at(sets: &[u16], position: usize, last: usize) -> Four<usize>
     requires { (position < last) × (last ≤ length sets.now) × (length sets.now ≤ max_subsets) }
-    ensures { NextFour (entry_of sets.now) position last (nth_number result) }
+    ensures { NextFour (entry_of sets.now) position last (nth result) }
 {
     let at = four_from(position, last);
     let a = at.a;
     let b = at.b;
     let c = at.c;
     let d = at.d;
-    FourNumbers {
+    Four {
         a: sets[a] as usize,
         b: sets[b] as usize,
         c: sets[c] as usize,
@@ -59,14 +59,14 @@ fn close_four(
     arcs: usize,
     n: usize,
     size: usize,
-    sets: FourNumbers,
+    sets: Four<usize>,
     cells: &mut [Cost],
     lanes: &mut [Cost],
 )
     requires { let t = arcs_alone starts.now ends.now weights.now in
-        (Tables n arcs size t index.now places.now cells.old lanes.old × ((j : ℕ) → j < 4 → nth_number sets j < size)) }
+        (Tables n arcs size t index.now places.now cells.old lanes.old × ((j : ℕ) → j < 4 → nth sets j < size)) }
     ensures { let t = arcs_alone starts.now ends.now weights.now in
-        (FourClosed n arcs size t (nth_number sets) cells.old cells.new) }
+        (FourClosed n arcs size t (nth sets) cells.old cells.new) }
 {
     take_columns(cells, n, size, sets, lanes);
     if !some_finite(lanes) {

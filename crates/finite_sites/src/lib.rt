@@ -4,10 +4,10 @@
 ghost use Rattle.std.specs.Prelude.{◌≡◌, false, ◌+◌, ◌*◌, ◌<◌, ◌≤◌, length};
 ghost use Rattle.limits.specs.Limits.{max_nodes, max_subsets};
 ghost use Rattle.cost_table.specs.Cells.{cell_in};
-ghost use Rattle.lanes.specs.laws.Four.{nth_number};
+ghost use Rattle.lanes.specs.laws.Four.{nth};
 ghost use Rattle.finite_sites.specs.laws.Finite.{NoTerminal, NoneBetween, NextFinite, FourFinite};
 
-use lanes::FourNumbers;
+use lanes::Four;
 use limits::Cost;
 use working_none::WORKING_NONE;
 
@@ -55,14 +55,14 @@ fn finite_after(cells: &[Cost], size: usize, n: usize, v: usize) -> usize
 }
 
 // Site v and the next three that have one; past the last one, that one again.
-pub fn four_finite(cells: &[Cost], size: usize, n: usize, v: usize) -> FourNumbers
+pub fn four_finite(cells: &[Cost], size: usize, n: usize, v: usize) -> Four<usize>
     requires { (n * size ≤ length cells.now) × (size ≤ max_subsets) × (v < n) × (n ≤ max_nodes) }
-    ensures { FourFinite (cell_in cells.now size) size n v (nth_number result) }
+    ensures { FourFinite (cell_in cells.now size) size n v (nth result) }
 {
     let b = finite_after(cells, size, n, v);
     let c = finite_after(cells, size, n, b);
     let d = finite_after(cells, size, n, c);
-    FourNumbers {
+    Four {
         a: v,
         b: b,
         c: c,

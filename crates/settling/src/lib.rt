@@ -16,7 +16,7 @@ use lanes::{Four, lanes_of, less, lesser_of, set_lanes};
 use limits::Cost;
 
 // What a leg of this price gives its start, where its end has these cells.
-pub fn along(here: Four, weight: u32) -> Four
+pub fn along(here: Four<Cost>, weight: u32) -> Four<Cost>
     requires { FourLow here × (weight ≤ max_weight) }
     ensures { result ≡ along_four here weight }
 {
@@ -30,7 +30,7 @@ pub fn along(here: Four, weight: u32) -> Four
 }
 
 // Whether that is less than a cell of site u.
-pub fn falls(lanes: &[Cost], u: usize, by: Four) -> bool
+pub fn falls(lanes: &[Cost], u: usize, by: Four<Cost>) -> bool
     requires { (u * 4 + 4 ≤ length lanes.now) × AllLow lanes.now × FourSmall by }
     ensures { result ≡ falls_four (four_of lanes.now u) by }
 {
@@ -39,7 +39,7 @@ pub fn falls(lanes: &[Cost], u: usize, by: Four) -> bool
 }
 
 // Each cell of site u falls to that where it is above it.
-pub fn lower(lanes: &mut [Cost], u: usize, by: Four)
+pub fn lower(lanes: &mut [Cost], u: usize, by: Four<Cost>)
     requires { (u * 4 + 4 ≤ length lanes.old) × AllLow lanes.old × FourSmall by }
     ensures { LoweredAt u by lanes.old lanes.new }
 {
@@ -51,7 +51,7 @@ pub fn next_falling(
     starts: &[u16],
     weights: &[u32],
     index: &[u16],
-    here: Four,
+    here: Four<Cost>,
     from: usize,
     end: usize,
     lanes: &[Cost],

@@ -108,7 +108,7 @@ pub fn site_of(turn: u64) -> usize {
 }
 
 // The least of four costs.
-fn least_of(four: Four) -> Cost {
+fn least_of(four: Four<Cost>) -> Cost {
     lesser(lesser(four.a, four.b), lesser(four.c, four.d))
 }
 
@@ -121,7 +121,7 @@ fn finite_or(cost: Cost, other: Cost) -> Cost {
 }
 
 // The sum of four costs; for one that is "none" or more, the least of them counts. Where the sum is below "none", none of them is.
-fn cost_sum(four: Four) -> u64
+fn cost_sum(four: Four<Cost>) -> u64
     ensures { result < key_limit }
 {
     let sum = ((four.a as u64) + (four.b as u64)) + ((four.c as u64) + (four.d as u64));
@@ -144,7 +144,7 @@ fn fallen(new: Cost, old: Cost) -> Cost {
 
 // By which key a site has a turn that had the cells `old` and is given `by`: by the sum of what it is given, and in the last round by the least to which
 // a cell falls.
-pub fn turn_key(round: u8, by: Four, old: Four) -> u64
+pub fn turn_key(round: u8, by: Four<Cost>, old: Four<Cost>) -> u64
     ensures { result < key_limit }
 {
     if round < LAST_ROUND {
@@ -160,7 +160,7 @@ pub fn turn_key(round: u8, by: Four, old: Four) -> u64
 }
 
 // Site v, which has these cells, has a turn by their sum, where one of them is finite.
-fn enter_by_sum(v: usize, here: Four, turns: &mut [u64])
+fn enter_by_sum(v: usize, here: Four<Cost>, turns: &mut [u64])
     requires { (length turns.old ≡ turn_entries) × (v < max_nodes) }
 {
     if least_of(here) == WORKING_NONE {
@@ -170,7 +170,7 @@ fn enter_by_sum(v: usize, here: Four, turns: &mut [u64])
 }
 
 // Site v, which has these cells, has its turn by the least of them, where it has a turn.
-fn enter_by_least(v: usize, here: Four, turns: &mut [u64])
+fn enter_by_least(v: usize, here: Four<Cost>, turns: &mut [u64])
     requires { (length turns.old ≡ turn_entries) × (v < max_nodes) }
 {
     if turns[v] == NO_TURN {
@@ -180,7 +180,7 @@ fn enter_by_least(v: usize, here: Four, turns: &mut [u64])
 }
 
 // The one in round 0, else the other.
-fn enter_site(round: u8, v: usize, here: Four, turns: &mut [u64])
+fn enter_site(round: u8, v: usize, here: Four<Cost>, turns: &mut [u64])
     requires { (length turns.old ≡ turn_entries) × (v < max_nodes) }
 {
     if round == 0 {

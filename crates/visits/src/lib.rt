@@ -16,7 +16,7 @@ use settling::{along, lower, next_falling};
 use turn_table::{NO_TURN, enter, sooner, turn_key};
 
 // Each cell of site u that is above what a leg gives falls to it, and the site has a turn, which is given back.
-fn lower_in_turn(round: u8, u: usize, by: Four, lanes: &mut [Cost], turns: &mut [u64]) -> u64
+fn lower_in_turn(round: u8, u: usize, by: Four<Cost>, lanes: &mut [Cost], turns: &mut [u64]) -> u64
     requires { (length turns.old ≡ turn_entries) × (u < max_nodes) × (u * 4 + 4 ≤ length lanes.old) × AllLow lanes.old × FourSmall by }
     ensures { LoweredAt u by lanes.old lanes.new }
 {

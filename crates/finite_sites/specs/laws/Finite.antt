@@ -5,8 +5,7 @@ use Rattle.std.specs.Prelude.{ℕ, suc, ◌+◌, ◌≤◌, ◌<◌, ◌≡◌, 
 use Rattle.std.proofs.Common.{ap, ◌∙◌, arith, pow-suc, pow_mono}
 use Rattle.std.proofs.Math.Decide.{ℕ_discrete, dec_lt}
 use Rattle.subset.specs.Sets.{single}
-use Rattle.lanes.specs.declared.FourNumbers.{FourNumbers}
-use Rattle.lanes.specs.laws.Four.{nth_number, below_four}
+use Rattle.lanes.specs.laws.Four.{nth, below_four}
 use Rattle.working_none.specs.laws.WorkingNone.{working_none}
 
 -- ---- one node
@@ -85,18 +84,18 @@ module _ {c : ℕ → ℕ → ℕ} {size n : ℕ} where
   pub next_same : {v : ℕ} → v < n → NextFinite c size n v v
   next_same l = record { onward = omega arith; within = l; none = λ u a b. absurd (omega arith) }
 
-  pub four_finite_lem : {v : ℕ} {four : FourNumbers} → four.a ≡ v → NextFinite c size n v four.b → NextFinite c size n four.b four.c
-      → NextFinite c size n four.c four.d → FourFinite c size n v (nth_number four)
+  pub four_finite_lem : {v : ℕ} {four : Four ℕ} → four.a ≡ v → NextFinite c size n v four.b → NextFinite c size n four.b four.c
+      → NextFinite c size n four.c four.d → FourFinite c size n v (nth four)
   four_finite_lem {v} {four} is B C D = record {
-    low = below_four (λ j. v ≤ nth_number four j) (omega arith) B.onward (omega (arith, B.onward, C.onward))
+    low = below_four (λ j. v ≤ nth four j) (omega arith) B.onward (omega (arith, B.onward, C.onward))
         (omega (arith, B.onward, C.onward, D.onward));
-    high = below_four (λ j. nth_number four j ≤ four.d) (omega (arith, B.onward, C.onward, D.onward)) (omega (arith, C.onward, D.onward))
+    high = below_four (λ j. nth four j ≤ four.d) (omega (arith, B.onward, C.onward, D.onward)) (omega (arith, C.onward, D.onward))
         D.onward (omega arith);
     within = D.within;
     none = λ u a b apart. go u a b apart (dec_lt u four.b) (dec_lt u four.c);
   }
     where
-      go : (u : ℕ) → v ≤ u → u ≤ four.d → ((j : ℕ) → j < 4 → nth_number four j ≢ u) → Dec (u < four.b) → Dec (u < four.c) → NoTerminal (c u) size
+      go : (u : ℕ) → v ≤ u → u ≤ four.d → ((j : ℕ) → j < 4 → nth four j ≢ u) → Dec (u < four.b) → Dec (u < four.c) → NoTerminal (c u) size
       go u a b apart (yes l) d =
           let first : four.a ≢ u = apart 0 (omega arith) in
           B.none u (omega arith) l

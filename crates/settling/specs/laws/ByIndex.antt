@@ -68,7 +68,7 @@ pub record AtNode (places lanes : List ℕ) (v : ℕ) : Type 0 where
 pub at_node : {n v : ℕ} {starts weights by_end places lanes : List ℕ} → SomeArcs n starts weights by_end places lanes → v < n → AtNode places lanes v
 at_node S on = record { next = omega (arith, S.indexed.index.places_long); fits = omega (arith, S.indexed.wide) }
 
-pub here_low : {n v : ℕ} {here : Four} {starts weights by_end places lanes : List ℕ} → SomeArcs n starts weights by_end places lanes → v < n
+pub here_low : {n v : ℕ} {here : Four ℕ} {starts weights by_end places lanes : List ℕ} → SomeArcs n starts weights by_end places lanes → v < n
     → here ≡ four_of lanes v → FourLow here
 here_low {v = v} {lanes = lanes} S on is = four_low lanes v (at_node S on).fits S.indexed.low is
 
@@ -91,29 +91,29 @@ module _ {n v : ℕ} {starts weights by_end places lanes : List ℕ} (S : SomeAr
 -- ---- the first entry whose arc gives less
 
 -- whether the arc at place i does, from a node with these cells
-abbrev pub falls_at : (starts weights by_end lanes : List ℕ) → (here : Four) → (i : ℕ) → Bool
+abbrev pub falls_at : (starts weights by_end lanes : List ℕ) → (here : Four ℕ) → (i : ℕ) → Bool
 falls_at starts weights by_end lanes here i = falls_four (four_of lanes (entry starts (entry by_end i))) (along_four here (entry weights (entry by_end i)))
 
 -- the arcs from `from` up to r do not
-pub record NoneFalls (starts weights by_end lanes : List ℕ) (here : Four) (from r : ℕ) : Type 0 where
+pub record NoneFalls (starts weights by_end lanes : List ℕ) (here : Four ℕ) (from r : ℕ) : Type 0 where
   pub onward : from ≤ r
   pub none : (i : ℕ) → from ≤ i → i < r → falls_at starts weights by_end lanes here i ≡ false
 
 -- and that at r does, where it is before `end`
-pub record NextFalling (starts weights by_end lanes : List ℕ) (here : Four) (from end r : ℕ) : Type 0 where
+pub record NextFalling (starts weights by_end lanes : List ℕ) (here : Four ℕ) (from end r : ℕ) : Type 0 where
   pub before : NoneFalls starts weights by_end lanes here from r
   pub falls : r < end → falls_at starts weights by_end lanes here r ≡ true
 
 -- the test of one arc
-tested : (starts weights by_end lanes : List ℕ) (here : Four) (i : ℕ) {by : Four} {test b : Bool} → by ≡ along_four here (entry weights (entry by_end i))
+tested : (starts weights by_end lanes : List ℕ) (here : Four ℕ) (i : ℕ) {by : Four ℕ} {test b : Bool} → by ≡ along_four here (entry weights (entry by_end i))
     → test ≡ falls_four (four_of lanes (entry starts (entry by_end i))) by → test ≡ b → falls_at starts weights by_end lanes here i ≡ b
 tested starts weights by_end lanes here i is tests e = sym (tests ∙ ap (falls_four (four_of lanes (entry starts (entry by_end i)))) is) ∙ e
 
-module _ {starts weights by_end lanes : List ℕ} {here : Four} where
+module _ {starts weights by_end lanes : List ℕ} {here : Four ℕ} where
   pub falls_none : {from : ℕ} → NoneFalls starts weights by_end lanes here from from
   falls_none = record { onward = omega arith; none = λ i a b. absurd (omega arith) }
 
-  module _ {i : ℕ} {by : Four} {test : Bool} (is : by ≡ along_four here (entry weights (entry by_end i)))
+  module _ {i : ℕ} {by : Four ℕ} {test : Bool} (is : by ≡ along_four here (entry weights (entry by_end i)))
       (tests : test ≡ falls_four (four_of lanes (entry starts (entry by_end i))) by) where
     pub falls_next : {from : ℕ} → NoneFalls starts weights by_end lanes here from i → test ≡ false → NoneFalls starts weights by_end lanes here from (i + 1)
     falls_next {from} N fails = record { onward = omega (arith, N.onward); none = λ e a b. go e a b (dec_lt e i) }
@@ -148,7 +148,7 @@ module _ {n : ℕ} {starts weights by_end places lanes : List ℕ} where
   pub before_none : SomeArcs n starts weights by_end places lanes → ClosedBefore n starts weights by_end places lanes 0 0
   before_none S = record { within = omega arith; is = sym S.indexed.index.first; closed = λ m end T. record { each = λ e l. absurd (omega arith) } }
 
-  module _ {v i r : ℕ} {here : Four} (C : ClosedBefore n starts weights by_end places lanes v i) (on : v < n) (was : here ≡ four_of lanes v)
+  module _ {v i r : ℕ} {here : Four ℕ} (C : ClosedBefore n starts weights by_end places lanes v i) (on : v < n) (was : here ≡ four_of lanes v)
       (N : NextFalling starts weights by_end lanes here i (entry places (v + 1)) r) where
     -- what the arc at a place of the group gives
     gives : (m : ℕ) (end : ℕ → ℕ) → ArcsByEnd n m end starts weights by_end places lanes → (e j : ℕ) → i ≤ e → e < entry places (v + 1) → j < 4
@@ -158,7 +158,7 @@ module _ {n : ℕ} {starts weights by_end places lanes : List ℕ} where
         omega (
           arith,
           along_nth here (entry weights (entry by_end e)) j s,
-          ap (λ (f : Four). nth f j) was,
+          ap (λ (f : Four ℕ). nth f j) was,
           cell_nth lanes v j s,
           ap (λ (x : ℕ). cell_in lanes 4 x j) ends,
         )

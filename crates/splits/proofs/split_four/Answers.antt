@@ -2,7 +2,7 @@
 -- Assumes nothing.
 use Rattle.std.proofs.Common.{◌-◌, ◌<◌, refl, arith, length}
 use Rattle.order_ranges.specs.laws.Ranges.{not_empty}
-use Rattle.lanes.specs.laws.Four.{nth_number}
+use Rattle.lanes.specs.laws.Four.{nth}
 use Rattle.splits.specs.laws.FourRows.{rows_fit, taken_costs, best_in_table}
 use Rattle.splits.specs.laws.SplitRows.{four_none, still_rows, four_next, four_all}
 use Rattle.splits.proofs.split_four.Goals as goal
@@ -38,7 +38,7 @@ loop-position-preserved c =
     let asked = c.requires in
     let inv = c.loop-position.invariant in
     let small = asked.0.below c.loop-position.position (omega (arith, c.loop-position-test.true, asked.1.bound)) in
-    let best = best_in_table c.args.cells.now (nth_number c.args.rows) small c.take_rows.ensures c.best_splits.ensures in
+    let best = best_in_table c.args.cells.now (nth c.args.rows) small c.take_rows.ensures c.best_splits.ensures in
     (omega (arith, inv.0), omega (arith, c.loop-position-test.true), four_next asked.0 asked.1 inv.0 c.loop-position-test.true asked.3 inv.2 refl best c.write_rows.ensures)
 
 pub shape_of-cells : goal.shape_of-cells

@@ -66,7 +66,7 @@ module _ {at : ℕ → ℕ} {first size : ℕ} {r : ℕ → ℕ} {before : List 
     low = λ i l. omega (arith, S.low i, B.low i (omega (arith, S.same_length)));
   }
 
-  pub four_next : {m last p w : ℕ} {best : Four} {mid after : List ℕ} → Ordered at m size → OneSize at m first last → first ≤ p → p < last → Rows before size r
+  pub four_next : {m last p w : ℕ} {best : Four ℕ} {mid after : List ℕ} → Ordered at m size → OneSize at m first last → first ≤ p → p < last → Rows before size r
       → FourSplit at first p size r before mid → w ≡ at p → BestSplits (cells_at before size r) w best
       → after ≡ write_rows size r w (nth best) mid → FourSplit at first (p + 1) size r before after
   four_next {m} {last} {p} {w} {best} {mid} {after} O R l b B S is least new = record {

@@ -45,7 +45,7 @@ module _ {n v : ℕ} {starts weights by_end places before mid : List ℕ} (S : S
   group_from low = known_from (still_some L S) on low
 
 -- one arc of the group, with the cells that node v had
-pub group_arc : {n v i : ℕ} {here by : Four} {starts weights by_end places before mid after : List ℕ} → LoweredByIndex n starts weights by_end places before mid
+pub group_arc : {n v i : ℕ} {here by : Four ℕ} {starts weights by_end places before mid after : List ℕ} → LoweredByIndex n starts weights by_end places before mid
     → v < n → entry places v ≤ i → i < entry places (v + 1) → here ≡ four_of before v → by ≡ along_four here (entry weights (entry by_end i))
     → LoweredAt (entry starts (entry by_end i)) by mid after → LoweredByIndex n starts weights by_end places before after
 group_arc {n} {v} {i} {here} {by} {starts} {weights} {by_end} {places} {before} {mid} {after} L on from to was is A = record {
@@ -58,9 +58,9 @@ group_arc {n} {v} {i} {here} {by} {starts} {weights} {by_end} {places} {before} 
         arith,
         l.low v j s,
         ap (λ (x : ℕ). cell_in mid 4 x j) ends,
-        ap (λ (f : Four). nth f j) is,
+        ap (λ (f : Four ℕ). nth f j) is,
         along_nth here (entry weights (entry by_end i)) j s,
-        ap (λ (f : Four). nth f j) was,
+        ap (λ (f : Four ℕ). nth f j) was,
         cell_nth before v j s,
       )) A);
 }
