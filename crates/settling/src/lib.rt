@@ -1,7 +1,7 @@
 // The cells of four sets, four for each site, are lowered along the legs of an index until none of them gives less.
 #![tactic(auto)]
 
-ghost use Rattle.std.specs.Prelude.{◌≡◌, ◌+◌, ◌*◌, ◌≤◌, length};
+ghost use Rattle.std.specs.Prelude.{◌≡◌, ◌+◌, ◌*◌, ◌<◌, ◌≤◌, length, MatchOption};
 ghost use Rattle.limits.specs.Limits.{max_weight};
 ghost use Rattle.lent_tables.specs.SheetTables.{arcs_alone};
 ghost use Rattle.working_none.specs.laws.Low.{entry, AllLow};
@@ -9,7 +9,7 @@ ghost use Rattle.lanes.specs.laws.Four.{four_of, FourLow, FourSmall};
 ghost use Rattle.settling.specs.laws.Arcs.{ListLanes, start_of, end_of, weight_of};
 ghost use Rattle.settling.specs.laws.LowerFour.{along_four, falls_four, LoweredAt};
 ghost use Rattle.settling.specs.laws.Lowered.{PassedTo, Settled};
-ghost use Rattle.settling.specs.laws.ByIndex.{Entries, NextFalling, SomeArcs, OpenByIndex};
+ghost use Rattle.settling.specs.laws.ByIndex.{Entries, NoneFalling, NextFalling, SomeArcs, OpenByIndex};
 ghost use Rattle.settling.specs.laws.Settling.{SettleAsked};
 
 use lanes::{Four, lanes_of, less, lesser_of, set_lanes};
@@ -46,7 +46,7 @@ pub fn lower(lanes: &mut [Cost], u: usize, by: Four<Cost>)
     set_lanes(lanes, u, lesser_of(by, lanes_of(lanes, u)));
 }
 
-// The first entry of an index, from `from` on, whose leg gives its start less than that has, where the legs end at a site with these cells; or `end`.
+// The first entry of an index, from `from` up to `end`, whose leg gives its start less than that has, where the legs end at a site with these cells.
 pub fn next_falling(
     starts: &[u16],
     weights: &[u32],
@@ -55,23 +55,22 @@ pub fn next_falling(
     from: usize,
     end: usize,
     lanes: &[Cost],
-) -> usize
+) -> Option<usize>
     requires { FourLow here × Entries starts.now weights.now index.now lanes.now from end }
-    ensures { NextFalling starts.now weights.now index.now lanes.now here from end result }
+    ensures { MatchOption result (NoneFalling starts.now weights.now index.now lanes.now here from end)
+        (λ i. NextFalling starts.now weights.now index.now lanes.now here from end i) }
 {
-    let mut i = from;
-    while i < end {
+    for i in from..end {
         let e = index[i] as usize;
         let given = along(here, weights[e]);
         if falls(lanes, starts[e] as usize, given) {
-            return i;
+            return Some(i);
         }
-        i += 1;
     }
-    i
+    None
 }
 
-// The first entry of all, where the legs of site v are those from entry v of `places` on; or the number of entries where no leg gives less.
+// The first entry of all, where the legs of site v are those from entry v of `places` on.
 fn first_open(
     starts: &[u16],
     weights: &[u32],
@@ -79,22 +78,20 @@ fn first_open(
     places: &[u16],
     n: usize,
     lanes: &[Cost],
-) -> usize
+) -> Option<usize>
     requires { SomeArcs n starts.now weights.now index.now places.now lanes.now }
-    ensures { OpenByIndex n starts.now weights.now index.now places.now lanes.now result }
+    ensures { MatchOption result (OpenByIndex n starts.now weights.now index.now places.now lanes.now (entry places.now n))
+        (λ i. (i < entry places.now n) × OpenByIndex n starts.now weights.now index.now places.now lanes.now i) }
 {
-    let mut i = 0;
-    let mut v = 0;
-    while v < n {
+    let mut first = 0;
+    for v in 0..n {
         let end = places[v + 1] as usize;
-        let next = next_falling(starts, weights, index, lanes_of(lanes, v), i, end, lanes);
-        if next < end {
-            return next;
+        match next_falling(starts, weights, index, lanes_of(lanes, v), first, end, lanes) {
+            Some(open) => return Some(open),
+            None => first = end,
         }
-        i = end;
-        v += 1;
     }
-    i
+    None
 }
 
 // Each leg of the list from `from` on: the cells of its start fall to what it gives, where that is less.
@@ -112,13 +109,11 @@ fn lower_from(
         (PassedTo count (start_of t list.now) (end_of t list.now) (weight_of t list.now) from count
         lanes.old lanes.new) }
 {
-    let mut i = from;
-    while i < count {
+    for i in from..count {
         let e = list[i] as usize;
         let end = ends[e] as usize;
         let given = along(lanes_of(lanes, end), weights[e]);
         lower(lanes, starts[e] as usize, given);
-        i += 1;
     }
 }
 
@@ -139,11 +134,7 @@ pub fn settle(
         lanes.old lanes.new) }
 {
     let count = places[n] as usize;
-    loop {
-        let open = first_open(starts, weights, index, places, n, lanes);
-        if open == count {
-            return;
-        }
+    while let Some(open) = first_open(starts, weights, index, places, n, lanes) {
         lower_from(starts, ends, weights, index, count, open, lanes);
     }
 }

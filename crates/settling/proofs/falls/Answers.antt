@@ -1,6 +1,6 @@
 -- `settling::falls` meets its contract.
 -- Assumes nothing.
-use Rattle.std.proofs.Common.{ap, ◌∙◌, ◌||◌}
+use Rattle.std.proofs.Common.{ℕ, ap, ◌∙◌, ◌||◌}
 use Rattle.lanes.specs.declared.Four.{Four}
 use Rattle.lanes.specs.laws.Four.{low_small}
 use Rattle.settling.specs.laws.LowerFour.{falls_four, four_low}

@@ -1,24 +1,15 @@
 -- `settling::next_falling` meets its contract.
 -- Assumes nothing.
-use Rattle.std.proofs.Common.{◌-◌, arith}
+use Rattle.std.proofs.Common.{arith}
 use Rattle.settling.specs.laws.LowerFour.{along_small}
-use Rattle.settling.specs.laws.ByIndex.{falls_none, falls_next, falls_found, falls_end}
+use Rattle.settling.specs.laws.ByIndex.{InGroup, falls_none, falls_next, falls_found, falls_end}
 use Rattle.settling.proofs.next_falling.Goals as goal
 
 pub loop-i-init : goal.loop-i-init
 loop-i-init c = falls_none
 
-pub offset_bounds-index-i : goal.offset_bounds-index-i
-offset_bounds-index-i c = omega (arith, c.requires.1.each c.loop-i.i c.loop-i.invariant.onward c.loop-i-test.true)
-
 pub bounds-index-i : goal.bounds-index-i
 bounds-index-i c = (c.requires.1.each c.loop-i.i c.loop-i.invariant.onward c.loop-i-test.true).on
-
-pub overflow_cast-e : goal.overflow_cast-e
-overflow_cast-e c = omega (arith, c.type_inv.index c.loop-i.i)
-
-pub offset_bounds-weights-e : goal.offset_bounds-weights-e
-offset_bounds-weights-e c = omega (arith, c.requires.1.each c.loop-i.i c.loop-i.invariant.onward c.loop-i-test.true)
 
 pub bounds-weights-e : goal.bounds-weights-e
 bounds-weights-e c = (c.requires.1.each c.loop-i.i c.loop-i.invariant.onward c.loop-i-test.true).weights_on
@@ -26,14 +17,8 @@ bounds-weights-e c = (c.requires.1.each c.loop-i.i c.loop-i.invariant.onward c.l
 pub along-given-requires : goal.along-given-requires
 along-given-requires c = (c.requires.0, (c.requires.1.each c.loop-i.i c.loop-i.invariant.onward c.loop-i-test.true).weight_low)
 
-pub offset_bounds-starts-e : goal.offset_bounds-starts-e
-offset_bounds-starts-e c = omega (arith, c.requires.1.each c.loop-i.i c.loop-i.invariant.onward c.loop-i-test.true)
-
 pub bounds-starts-e : goal.bounds-starts-e
 bounds-starts-e c = (c.requires.1.each c.loop-i.i c.loop-i.invariant.onward c.loop-i-test.true).starts_on
-
-pub overflow_cast-starts : goal.overflow_cast-starts
-overflow_cast-starts c = omega (arith, c.requires.1.each c.loop-i.i c.loop-i.invariant.onward c.loop-i-test.true)
 
 pub falls-requires : goal.falls-requires
 falls-requires c =
@@ -42,7 +27,7 @@ falls-requires c =
     (e.fits, p.1.low, along_small p.0 e.weight_low c.along-given.ensures)
 
 pub returns-then-falls : goal.returns-then-falls
-returns-then-falls c = falls_found c.along-given.ensures c.falls.ensures c.loop-i.invariant c.if-falls.true
+returns-then-falls c = falls_found c.along-given.ensures c.falls.ensures c.loop-i.invariant c.loop-i-test.true c.if-falls.true
 
 pub loop-i-preserved : goal.loop-i-preserved
 loop-i-preserved c = falls_next c.along-given.ensures c.falls.ensures c.loop-i.invariant c.if-falls.false

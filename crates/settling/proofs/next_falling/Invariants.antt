@@ -1,11 +1,7 @@
 -- `settling::next_falling` meets its contract. The loop's invariant: the arcs from the first entry up to entry i give no cell less.
 -- Assumes nothing.
-use Rattle.std.proofs.Common.{◌-◌}
 use Rattle.settling.specs.laws.ByIndex.{NoneFalls}
 use Rattle.settling.proofs.next_falling.Given as goal
 
 abbrev pub invariant-loop-i : goal.invariant-loop-i
 invariant-loop-i l = NoneFalls l.starts l.weights l.index l.lanes l.here l.from l.i
-
-abbrev pub decreases-loop-i : goal.decreases-loop-i
-decreases-loop-i l = l.end - l.i

@@ -8,8 +8,8 @@ use Rattle.settling.specs.laws.Arcs.{start_of, end_of, weight_of}
 use Rattle.settling.specs.laws.Lowered.{Lowered}
 use Rattle.settling.proofs.settle.Given as goal
 
-abbrev pub invariant-loop-n : goal.invariant-loop-n
-invariant-loop-n l = let t = arcs_alone l.starts l.ends l.weights in Lowered (entry l.places l.n) (start_of t l.index) (end_of t l.index) (weight_of t l.index) l.initial.lanes l.lanes
+abbrev pub invariant-loop-open : goal.invariant-loop-open
+invariant-loop-open l = let t = arcs_alone l.starts l.ends l.weights in Lowered (entry l.places l.n) (start_of t l.index) (end_of t l.index) (weight_of t l.index) l.initial.lanes l.lanes
 
-abbrev pub decreases-loop-n : goal.decreases-loop-n
-decreases-loop-n l = sum_to (length l.initial.lanes) (entry l.lanes)
+abbrev pub decreases-loop-open : goal.decreases-loop-open
+decreases-loop-open l = sum_to (length l.initial.lanes) (entry l.lanes)
