@@ -9,17 +9,17 @@ ghost use Rattle.settling.specs.laws.ByIndex.{SomeArcs};
 ghost use Rattle.visits.specs.laws.ByIndex.{LoweredByIndex};
 
 use limits::Cost;
-use turn_table::{ENTRIES, LAST_ROUND, NO_TURN, enter_all, first_turn, leave, site_of, sooner};
+use turn_table::{ENTRIES, NO_TURN, Round, enter_all, first_turn, leave, site_of};
 use visits::visit;
 
 // How many turns are taken in a round at most.
-fn most_turns(round: u8, n: usize) -> usize
+fn most_turns(round: Round, n: usize) -> usize
     requires { n ≤ max_nodes }
 {
-    if round < LAST_ROUND {
-        return n + n / 4;
+    match round {
+        Round::AllWait | Round::RestWaits => n + n / 4,
+        Round::LeastFirst => 5 * n,
     }
-    5 * n
 }
 
 // The turns of a round, the least first.
@@ -29,7 +29,7 @@ fn take_turns(
     index: &[u16],
     places: &[u16],
     n: usize,
-    round: u8,
+    round: Round,
     lanes: &mut [Cost],
     turns: &mut [u64],
 )
@@ -38,17 +38,17 @@ fn take_turns(
         lanes.old lanes.new }
 {
     enter_all(round, lanes, n, turns);
-    let mut left = most_turns(round, n);
     let mut turn = first_turn(turns);
-    while 0 < left {
-        let v = site_of(turn);
+    for _ in 0..most_turns(round, n) {
+        let Some(v) = site_of(turn) else {
+            return;
+        };
         if n <= v {
             return;
         }
         let other = leave(v, turns);
         let new = visit(starts, weights, index, places, n, round, v, lanes, turns);
-        turn = sooner(new, other);
-        left -= 1;
+        turn = new.min(other);
     }
 }
 
@@ -68,7 +68,7 @@ pub fn lower_by_turns(
         lanes.old lanes.new }
 {
     let mut turns = [NO_TURN; ENTRIES];
-    take_turns(starts, weights, index, places, n, 0, lanes, &mut turns);
-    take_turns(starts, weights, index, places, n, 1, lanes, &mut turns);
-    take_turns(starts, weights, index, places, n, 2, lanes, &mut turns);
+    for round in [Round::AllWait, Round::RestWaits, Round::LeastFirst] {
+        take_turns(starts, weights, index, places, n, round, lanes, &mut turns);
+    }
 }

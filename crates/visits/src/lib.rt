@@ -13,10 +13,10 @@ ghost use Rattle.visits.specs.laws.ByIndex.{LoweredByIndex};
 use lanes::{Four, lanes_of};
 use limits::Cost;
 use settling::{along, lower, next_falling};
-use turn_table::{NO_TURN, enter, sooner, turn_key};
+use turn_table::{NO_TURN, Round, enter, turn_key};
 
 // Each cell of site u that is above what a leg gives falls to it, and the site has a turn, which is given back.
-fn lower_in_turn(round: u8, u: usize, by: Four<Cost>, lanes: &mut [Cost], turns: &mut [u64]) -> u64
+fn lower_in_turn(round: Round, u: usize, by: Four<Cost>, lanes: &mut [Cost], turns: &mut [u64]) -> u64
     requires { (length turns.old ≡ turn_entries) × (u < max_nodes) × (u * 4 + 4 ≤ length lanes.old) × AllLow lanes.old × FourSmall by }
     ensures { LoweredAt u by lanes.old lanes.new }
 {
@@ -34,7 +34,7 @@ pub fn visit(
     index: &[u16],
     places: &[u16],
     n: usize,
-    round: u8,
+    round: Round,
     v: usize,
     lanes: &mut [Cost],
     turns: &mut [u64],
@@ -46,15 +46,13 @@ pub fn visit(
 {
     let here = lanes_of(lanes, v);
     let end = places[v + 1] as usize;
-    let first = places[v] as usize;
+    let mut from = places[v] as usize;
     let mut soon = NO_TURN;
-    let mut i = next_falling(starts, weights, index, here, first, end, lanes);
-    while i < end {
+    while let Some(i) = next_falling(starts, weights, index, here, from, end, lanes) {
         let e = index[i] as usize;
-        let start = starts[e] as usize;
         let by = along(here, weights[e]);
-        soon = sooner(lower_in_turn(round, start, by, lanes, turns), soon);
-        i = next_falling(starts, weights, index, here, i + 1, end, lanes);
+        soon = lower_in_turn(round, starts[e] as usize, by, lanes, turns).min(soon);
+        from = i + 1;
     }
     soon
 }
