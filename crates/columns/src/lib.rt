@@ -23,15 +23,11 @@ fn sets_at(sets: &[u16], position: usize, last: usize) -> Four<usize>
     ensures { NextFour (entry_of sets.now) position last (nth result) }
 {
     let at = four_from(position, last);
-    let a = at.a;
-    let b = at.b;
-    let c = at.c;
-    let d = at.d;
     Four {
-        a: sets[a] as usize,
-        b: sets[b] as usize,
-        c: sets[c] as usize,
-        d: sets[d] as usize,
+        a: sets[at.a] as usize,
+        b: sets[at.b] as usize,
+        c: sets[at.c] as usize,
+        d: sets[at.d] as usize,
     }
 }
 
@@ -40,10 +36,8 @@ fn some_finite(lanes: &[Cost]) -> bool
     ensures { result ≡ false → AllNone lanes.now }
 {
     let mut found = false;
-    let mut i = 0;
-    while i < lanes.len() {
-        found = found | (lanes[i] < WORKING_NONE);
-        i += 1;
+    for cost in lanes {
+        found |= *cost < WORKING_NONE;
     }
     found
 }
@@ -99,12 +93,10 @@ pub fn close_sets(
     ensures { let t = arcs_alone starts.now ends.now weights.now in
         (SetsClosed n arcs size t (entry_of sets.now) first last last cells.old cells.new) }
 {
-    let mut position = first;
-    while position < last {
+    for position in (first..last).step_by(4) {
         let four = sets_at(sets, position, last);
         close_four(
             starts, ends, weights, index, places, arcs, n, size, four, cells, lanes,
         );
-        position += 4;
     }
 }

@@ -6,6 +6,7 @@ use Rattle.std.proofs.Math.Decide.{dec_lt}
 use Rattle.lent_tables.specs.SheetTables.{SheetTables}
 use Rattle.order_ranges.specs.laws.Ranges.{Ordered, OneSize, Outside}
 use Rattle.cost_table.specs.Cells.{cell_in}
+use Rattle.lanes.specs.declared.Four.{Four}
 use Rattle.lanes.specs.laws.Four.{nth, four_from, from_nth, below_four}
 use Rattle.lanes.specs.laws.WriteFour.{LaneOf, NoLane, lane_or_none, put_four}
 use Rattle.lanes.specs.laws.Columns.{ColumnsTaken, ColumnsGiven}

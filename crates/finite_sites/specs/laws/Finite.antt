@@ -5,6 +5,7 @@ use Rattle.std.specs.Prelude.{ℕ, suc, ◌+◌, ◌≤◌, ◌<◌, ◌≡◌, 
 use Rattle.std.proofs.Common.{ap, ◌∙◌, arith, pow-suc, pow_mono}
 use Rattle.std.proofs.Math.Decide.{ℕ_discrete, dec_lt}
 use Rattle.subset.specs.Sets.{single}
+use Rattle.lanes.specs.declared.Four.{Four}
 use Rattle.lanes.specs.laws.Four.{nth, below_four}
 use Rattle.working_none.specs.laws.WorkingNone.{working_none}
 
