@@ -47,10 +47,8 @@ fn take_rows(cells: &[Cost], size: usize, rows: Four<usize>, by_set: &mut [Cost]
     requires { Rows cells.now size (nth rows) × (size * 4 ≤ length by_set.old) }
     ensures { RowsTaken cells.now size (nth rows) size by_set.old by_set.new }
 {
-    let mut w = 0;
-    while w < size {
+    for w in 0..size {
         set_lanes(by_set, w, read_rows(cells, size, rows, w));
-        w += 1;
     }
 }
 
@@ -58,15 +56,11 @@ fn take_rows(cells: &[Cost], size: usize, rows: Four<usize>, by_set: &mut [Cost]
 fn heard_at(landings: &[u16], sites: Four<usize>) -> Four<usize>
     requires { (sites.a < length landings.now) × (sites.b < length landings.now) × (sites.c < length landings.now) × (sites.d < length landings.now) }
 {
-    let a = sites.a;
-    let b = sites.b;
-    let c = sites.c;
-    let d = sites.d;
     Four {
-        a: landings[a] as usize,
-        b: landings[b] as usize,
-        c: landings[c] as usize,
-        d: landings[d] as usize,
+        a: landings[sites.a] as usize,
+        b: landings[sites.b] as usize,
+        c: landings[sites.c] as usize,
+        d: landings[sites.d] as usize,
     }
 }
 
@@ -87,11 +81,9 @@ fn split_four(
     ensures { FourSplit (entry_of sets.now) first last size (nth rows) cells.old cells.new }
 {
     take_rows(cells, size, rows, by_set);
-    let mut position = first;
-    while position < last {
+    for position in first..last {
         let w = sets[position] as usize;
         write_rows(cells, size, rows, w, best_splits(by_set, w, heard));
-        position += 1;
     }
 }
 
@@ -112,12 +104,11 @@ pub fn split_rows(
         × (size * 4 ≤ length by_set.old) × (n ≤ length landings.now) }
     ensures { SplitTo (entry_of sets.now) first last n size n cells.old cells.new }
 {
-    let mut v = next_finite(cells, size, n, 0);
-    while v < n {
+    let mut from = 0;
+    while let Some(v) = next_finite(cells, size, n, from) {
         let four = four_finite(cells, size, n, v);
-        let end = four.d + 1;
         let heard = heard_at(landings, four);
         split_four(sets, size, four, heard, first, last, cells, by_set);
-        v = next_finite(cells, size, n, end);
+        from = four.d + 1;
     }
 }
