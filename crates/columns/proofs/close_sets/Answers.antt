@@ -12,7 +12,7 @@ close_four-requires c =
     (sets_tables c.requires.3 c.loop-position.invariant.2 c.loop-position.invariant.1, four_small c.requires.0 c.requires.1 c.loop-position-test.true c.sets_at-four.ensures)
 
 -- the next four sets are closed too
-next : (c : After-close_four) → SetsClosed c.args.n c.args.arcs c.args.size (arcs_alone c.args.starts.now c.args.ends.now c.args.weights.now)
+next : (c : After-close_four) → SetsClosed c.args.legs.n c.args.arcs c.args.size (arcs_alone c.args.legs.starts.now c.args.legs.ends.now c.args.legs.weights.now)
     (entry_of c.args.sets.now) c.args.first (c.loop-position.position + 4) c.args.last c.args.cells.now c.close_four.new.cells
 next c = sets_next c.requires.0 c.requires.1 c.loop-position-test.true c.sets_at-four.ensures c.requires.3.arcs c.loop-position.invariant.0 c.loop-position.invariant.2 c.close_four.ensures
 

@@ -7,4 +7,4 @@ use Rattle.columns.specs.laws.ClosedCells.{SetsClosed}
 use Rattle.columns.proofs.close_sets.Given as goal
 
 abbrev pub invariant-loop-position : goal.invariant-loop-position
-invariant-loop-position l = (l.first ≤ l.position) × (length l.lanes ≡ length l.initial.lanes) × SetsClosed l.n l.arcs l.size (arcs_alone l.starts l.ends l.weights) (entry_of l.sets) l.first l.position l.last l.initial.cells l.cells
+invariant-loop-position l = (l.first ≤ l.position) × (length l.lanes ≡ length l.initial.lanes) × SetsClosed l.legs.n l.arcs l.size (arcs_alone l.legs.starts.now l.legs.ends.now l.legs.weights.now) (entry_of l.sets) l.first l.position l.last l.initial.cells l.cells

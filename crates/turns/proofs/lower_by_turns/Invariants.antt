@@ -6,4 +6,4 @@ use Rattle.visits.specs.laws.ByIndex.{LoweredByIndex}
 use Rattle.turns.proofs.lower_by_turns.Given as goal
 
 abbrev pub invariant-loop-round : goal.invariant-loop-round
-invariant-loop-round l = (length l.turns ≡ turn_entries) × LoweredByIndex l.n l.starts l.weights l.index l.places l.initial.lanes l.lanes
+invariant-loop-round l = (length l.turns ≡ turn_entries) × LoweredByIndex l.legs.n l.legs.starts.now l.legs.weights.now l.legs.index.now l.legs.places.now l.initial.lanes l.lanes

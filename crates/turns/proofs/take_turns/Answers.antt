@@ -14,11 +14,11 @@ pub loop-init : goal.loop-init
 loop-init c = (c.enter_all.auto.turns ∙ c.requires.0, index_none)
 
 pub leave-other-requires : goal.leave-other-requires
-leave-other-requires c = (c.loop.invariant.0, omega (arith, c.if-n-v.false, c.requires.1.indexed.few))
+leave-other-requires c = (c.loop.invariant.0, omega (arith, c.if-legs-v.false, c.requires.1.indexed.few))
 
 pub visit-new-requires : goal.visit-new-requires
 visit-new-requires c =
-    (c.leave-other.auto.turns ∙ c.loop.invariant.0, omega (arith, c.if-n-v.false), still_some c.loop.invariant.1 c.requires.1)
+    (c.leave-other.auto.turns ∙ c.loop.invariant.0, omega (arith, c.if-legs-v.false), still_some c.loop.invariant.1 c.requires.1)
 
 pub loop-preserved : goal.loop-preserved
 loop-preserved c =

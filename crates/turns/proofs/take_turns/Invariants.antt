@@ -6,4 +6,4 @@ use Rattle.visits.specs.laws.ByIndex.{LoweredByIndex}
 use Rattle.turns.proofs.take_turns.Given as goal
 
 abbrev pub invariant-loop : goal.invariant-loop
-invariant-loop l = (length l.turns ≡ turn_entries) × LoweredByIndex l.n l.starts l.weights l.index l.places l.initial.lanes l.lanes
+invariant-loop l = (length l.turns ≡ turn_entries) × LoweredByIndex l.legs.n l.legs.starts.now l.legs.weights.now l.legs.index.now l.legs.places.now l.initial.lanes l.lanes

@@ -9,17 +9,17 @@ use Rattle.visits.proofs.visit.Goals as goal
 use Rattle.visits.proofs.visit.Goals.{In-Some}
 
 -- the entry that is found is one of the group of v
-onward : (c : In-Some) → entry c.args.places.now c.args.v ≤ c.in-Some.i
+onward : (c : In-Some) → entry c.args.legs.places.now c.args.v ≤ c.in-Some.i
 onward c = omega (arith, c.loop-i.invariant.0, c.in-Some.ensures.before.onward)
 
-known : (c : In-Some) → InGroup c.args.starts.now c.args.weights.now c.args.index.now c.loop-i.lanes c.in-Some.i
+known : (c : In-Some) → InGroup c.args.legs.starts.now c.args.legs.weights.now c.args.legs.index.now c.loop-i.lanes c.in-Some.i
 known c = in_group c.requires.2 c.requires.1 c.loop-i.invariant.2 (onward c) c.in-Some.ensures.within
 
 pub lanes_of-here-requires : goal.lanes_of-here-requires
 lanes_of-here-requires c = (at_node c.requires.2 c.requires.1).fits
 
-pub bounds-places-v : goal.bounds-places-v
-bounds-places-v c = (at_node c.requires.2 c.requires.1).next
+pub bounds-legs-v : goal.bounds-legs-v
+bounds-legs-v c = (at_node c.requires.2 c.requires.1).next
 
 pub loop-i-init : goal.loop-i-init
 loop-i-init c = (omega arith, c.requires.0, index_none)
@@ -28,18 +28,18 @@ pub next_falling-requires : goal.next_falling-requires
 next_falling-requires c =
     (here_low c.requires.2 c.requires.1 c.lanes_of-here.ensures, group_from c.requires.2 c.requires.1 c.loop-i.invariant.2 c.loop-i.invariant.0)
 
-pub bounds-index-i : goal.bounds-index-i
-bounds-index-i c = (known (goal.at.bounds-index-i c).In-Some).on
+pub bounds-legs-i : goal.bounds-legs-i
+bounds-legs-i c = (known (goal.at.bounds-legs-i c).In-Some).on
 
-pub bounds-weights-e : goal.bounds-weights-e
-bounds-weights-e c = (known (goal.at.bounds-weights-e c).In-Some).weights_on
+pub bounds-legs-e : goal.bounds-legs-e
+bounds-legs-e c = (known (goal.at.bounds-legs-e c).In-Some).weights_on
 
 pub along-by-requires : goal.along-by-requires
 along-by-requires c =
     (here_low c.requires.2 c.requires.1 c.lanes_of-here.ensures, (known (goal.at.along-by-requires c).In-Some).weight_low)
 
-pub bounds-starts-e : goal.bounds-starts-e
-bounds-starts-e c = (known (goal.at.bounds-starts-e c).In-Some).starts_on
+pub bounds-legs-e-in-Some : goal.bounds-legs-e-in-Some
+bounds-legs-e-in-Some c = (known (goal.at.bounds-legs-e-in-Some c).In-Some).starts_on
 
 pub lower_in_turn-requires : goal.lower_in_turn-requires
 lower_in_turn-requires c =

@@ -6,6 +6,7 @@ use Rattle.cost_table.specs.Cells.{cell_in}
 use Rattle.lanes.specs.declared.Four.{Four}
 use Rattle.lanes.specs.laws.Four.{nth, four_of}
 use Rattle.working_none.specs.laws.Low.{entry}
+use Rattle.settling.specs.declared.Legs.{Legs}
 use Rattle.settling.specs.laws.LowerFour.{along_four, along_nth, cell_nth, LoweredAt}
 use Rattle.settling.specs.laws.ByIndex.{ArcsByEnd, SomeArcs, same_arcs, InGroup, Entries, entry_known, known_from}
 use Rattle.settling.specs.laws.Lowered.{Lowered, lowered_none, lowered_more, lowered_by_arc, still_low}
@@ -13,6 +14,10 @@ use Rattle.settling.specs.laws.Lowered.{Lowered, lowered_none, lowered_more, low
 -- whatever arcs they are, the cells are lowered along them
 pub record LoweredByIndex (n : ℕ) (starts weights by_end places before after : List ℕ) : Type 0 where
   pub lowered : (m : ℕ) (end : ℕ → ℕ) → ArcsByEnd n m end starts weights by_end places before → Lowered m (entry starts) end (entry weights) before after
+
+-- along the legs of a struct
+abbrev pub LoweredByLegs : Legs → (before after : List ℕ) → Type 0
+LoweredByLegs l = LoweredByIndex l.n l.starts.now l.weights.now l.index.now l.places.now
 
 module _ {n : ℕ} {starts weights by_end places : List ℕ} where
   still_arcs : {m : ℕ} {end : ℕ → ℕ} {before after : List ℕ} → Lowered m (entry starts) end (entry weights) before after

@@ -1,12 +1,12 @@
--- `settling::settle` meets its contract.
+-- `Legs::settle` meets its contract.
 -- Assumes nothing.
 use Rattle.std.proofs.Common.{refl, arith}
 use Rattle.settling.specs.laws.Lowered.{lowered_none, lowered_more, sum_falls, settled_end}
 use Rattle.settling.specs.laws.Settling.{still_asked, some_arcs, first_of}
-use Rattle.settling.proofs.settle.Goals as goal
+use Rattle.settling.proofs.Legs.settle.Goals as goal
 
-pub bounds-places-n : goal.bounds-places-n
-bounds-places-n c = omega (arith, c.requires.by_end.index.places_long)
+pub bounds-self-self : goal.bounds-self-self
+bounds-self-self c = omega (arith, c.requires.by_end.index.places_long)
 
 pub loop-open-init : goal.loop-open-init
 loop-open-init c = lowered_none

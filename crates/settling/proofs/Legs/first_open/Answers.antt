@@ -1,14 +1,14 @@
--- `settling::first_open` meets its contract.
+-- `Legs::first_open` meets its contract.
 -- Assumes nothing.
 use Rattle.std.proofs.Common.{◌+◌, arith}
 use Rattle.settling.specs.laws.ByIndex.{at_node, here_low, known_from, before_none, before_next, open_here, within_all, before_all}
-use Rattle.settling.proofs.first_open.Goals as goal
+use Rattle.settling.proofs.Legs.first_open.Goals as goal
 
 pub loop-v-init : goal.loop-v-init
 loop-v-init c = before_none c.requires
 
-pub bounds-places-v : goal.bounds-places-v
-bounds-places-v c = (at_node c.requires c.loop-v-test.true).next
+pub bounds-self-v : goal.bounds-self-v
+bounds-self-v c = (at_node c.requires c.loop-v-test.true).next
 
 pub lanes_of-requires : goal.lanes_of-requires
 lanes_of-requires c = (at_node c.requires c.loop-v-test.true).fits

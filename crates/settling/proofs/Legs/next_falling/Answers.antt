@@ -1,24 +1,27 @@
--- `settling::next_falling` meets its contract.
+-- `Legs::next_falling` meets its contract.
 -- Assumes nothing.
 use Rattle.std.proofs.Common.{arith}
 use Rattle.settling.specs.laws.LowerFour.{along_small}
 use Rattle.settling.specs.laws.ByIndex.{InGroup, falls_none, falls_next, falls_found, falls_end}
-use Rattle.settling.proofs.next_falling.Goals as goal
+use Rattle.settling.proofs.Legs.next_falling.Goals as goal
 
 pub loop-i-init : goal.loop-i-init
 loop-i-init c = falls_none
 
-pub bounds-index-i : goal.bounds-index-i
-bounds-index-i c = (c.requires.1.each c.loop-i.i c.loop-i.invariant.onward c.loop-i-test.true).on
+pub offset_bounds-self-i : goal.offset_bounds-self-i
+offset_bounds-self-i c = omega (arith, c.requires.1.each c.loop-i.i c.loop-i.invariant.onward c.loop-i-test.true)
 
-pub bounds-weights-e : goal.bounds-weights-e
-bounds-weights-e c = (c.requires.1.each c.loop-i.i c.loop-i.invariant.onward c.loop-i-test.true).weights_on
+pub bounds-self-i : goal.bounds-self-i
+bounds-self-i c = (c.requires.1.each c.loop-i.i c.loop-i.invariant.onward c.loop-i-test.true).on
+
+pub bounds-self-e : goal.bounds-self-e
+bounds-self-e c = (c.requires.1.each c.loop-i.i c.loop-i.invariant.onward c.loop-i-test.true).weights_on
 
 pub along-given-requires : goal.along-given-requires
 along-given-requires c = (c.requires.0, (c.requires.1.each c.loop-i.i c.loop-i.invariant.onward c.loop-i-test.true).weight_low)
 
-pub bounds-starts-e : goal.bounds-starts-e
-bounds-starts-e c = (c.requires.1.each c.loop-i.i c.loop-i.invariant.onward c.loop-i-test.true).starts_on
+pub bounds-self-e-in-loop-i : goal.bounds-self-e-in-loop-i
+bounds-self-e-in-loop-i c = (c.requires.1.each c.loop-i.i c.loop-i.invariant.onward c.loop-i-test.true).starts_on
 
 pub falls-requires : goal.falls-requires
 falls-requires c =

@@ -1,4 +1,4 @@
--- `settling::settle` meets its contract. The loop's invariant: the cells are lowered along arcs. The measure is their sum.
+-- `Legs::settle` meets its contract. The loop's invariant: the cells are lowered along arcs. The measure is their sum.
 -- Assumes nothing.
 use Rattle.std.proofs.Common.{length}
 use Rattle.lists.specs.Sums.{sum_to}
@@ -6,10 +6,10 @@ use Rattle.lent_tables.specs.SheetTables.{arcs_alone}
 use Rattle.working_none.specs.laws.Low.{entry}
 use Rattle.settling.specs.laws.Arcs.{start_of, end_of, weight_of}
 use Rattle.settling.specs.laws.Lowered.{Lowered}
-use Rattle.settling.proofs.settle.Given as goal
+use Rattle.settling.proofs.Legs.settle.Given as goal
 
 abbrev pub invariant-loop-open : goal.invariant-loop-open
-invariant-loop-open l = let t = arcs_alone l.starts l.ends l.weights in Lowered (entry l.places l.n) (start_of t l.index) (end_of t l.index) (weight_of t l.index) l.initial.lanes l.lanes
+invariant-loop-open l = let t = arcs_alone l.self.starts.now l.self.ends.now l.self.weights.now in Lowered (entry l.self.places.now l.self.n) (start_of t l.self.index.now) (end_of t l.self.index.now) (weight_of t l.self.index.now) l.initial.lanes l.lanes
 
 abbrev pub decreases-loop-open : goal.decreases-loop-open
 decreases-loop-open l = sum_to (length l.initial.lanes) (entry l.lanes)
