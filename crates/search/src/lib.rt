@@ -59,6 +59,7 @@ fn fill(
     let size = sets_of(k);
     let wide = n * 4;
     start_rows(landings, n, size, cells);
+    // Not a `for`: a range of one size after the other.
     let mut first: usize = 1;
     while first < sets.len() {
         let last = end_of_size(sets, first);
@@ -81,17 +82,6 @@ fn fill(
         first = last;
     }
     finish(cells);
-}
-
-// 1 in each mark.
-fn mark_all(marks: &mut [u8])
-    ensures { marks.new ≡ replicate (length marks.old) 1 }
-{
-    let mut v = 0;
-    while v < marks.len() {
-        marks[v] = 1;
-        v += 1;
-    }
 }
 
 // The cost table and the marks of a sheet with n sites, k stations and so many legs, over the tables that hold it and the index of its legs.
@@ -146,5 +136,6 @@ pub fn search(
         &mut cells[..total],
         &mut lanes,
     );
-    mark_all(&mut marks[..nodes]);
+    let marked = &mut marks[..nodes];
+    marked.fill(1);
 }

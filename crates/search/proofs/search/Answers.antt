@@ -33,11 +33,11 @@ fill-requires c =
     fill_asked p.0 c.sets_of-size.ensures _ c.args.cells.now _ p.2 (omega arith) (search rules) c.sets_below-count.ensures
     (kept_indexed p.0 p.1 c.keep_cheapest.ensures (omega (arith, long)) (omega (arith, places, p.0.few_nodes))) (kept_covers p.0 p.1 c.keep_cheapest.ensures)
 
-pub slice_bounds-mark_all-end-2 : goal.slice_bounds-mark_all-end-2
-slice_bounds-mark_all-end-2 c = sym (length-take-le _ _ c.requires.3)
+pub slice_bounds-marked-end-2 : goal.slice_bounds-marked-end-2
+slice_bounds-marked-end-2 c = sym (length-take-le _ _ c.requires.3)
 
 pub returns : goal.returns
 returns c =
     let a = c.args in
     let p = c.requires in
-    (cells_over p.0 c.sets_of-size.ensures a.cells.now _ c.fill.ensures, marks_over _ a.marks.now _ p.3 c.mark_all.ensures)
+    (cells_over p.0 c.sets_of-size.ensures a.cells.now _ c.fill.ensures, marks_over _ a.marks.now _ p.3 (c.fill-2.ensures.after (λ y h. h)))
