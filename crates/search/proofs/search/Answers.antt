@@ -14,15 +14,15 @@ sets_below-count-requires c = (search rules, size_fits c.requires.0 c.sets_of-si
 pub keep_cheapest-requires : goal.keep_cheapest-requires
 keep_cheapest-requires c = let p = c.requires in (index_asked p.0 p.1, omega arith, omega (arith, p.0.few_nodes))
 
-pub slice_bounds-fill-end-3 : goal.slice_bounds-fill-end-3
-slice_bounds-fill-end-3 c = sym (length-take-le _ _ (omega (arith, c.sets_below-count.ensures.0)))
+pub slice_bounds-fill-end : goal.slice_bounds-fill-end
+slice_bounds-fill-end c = sym (length-take-le _ _ (omega (arith, c.sets_below-count.ensures.0)))
 
-pub slice_bounds-fill-end-4 : goal.slice_bounds-fill-end-4
-slice_bounds-fill-end-4 c =
+pub slice_bounds-fill-end-2 : goal.slice_bounds-fill-end-2
+slice_bounds-fill-end-2 c =
     total_long c.requires.0 c.sets_of-size.ensures c.requires.2
 
-pub slice_bounds-fill-end-5 : goal.slice_bounds-fill-end-5
-slice_bounds-fill-end-5 c =
+pub slice_bounds-fill-end-3 : goal.slice_bounds-fill-end-3
+slice_bounds-fill-end-3 c =
     sym (length-take-le _ _ (total_long c.requires.0 c.sets_of-size.ensures c.requires.2))
 
 pub fill-requires : goal.fill-requires
