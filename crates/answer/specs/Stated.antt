@@ -1,7 +1,7 @@
 -- What document 01, "What is sent back", and document 02 return in each case: the values of a plan, of an acceptance or of the enquirer, or the
 -- family, the number and the place of a refusal. The promises of all entry points are stated with these definitions.
 -- Assumes nothing.
-use Rattle.std.specs.Prelude.{ℕ}
+use Rattle.std.specs.Prelude.{ℕ, Result, Ok, Err, Option, Some, None}
 use Rattle.limits.specs.Refusals.{short_sheet, strange_mark, bad_head, no_such_site, no_such_station, loop, bad_price, too_many_legs, after_the_end, unheard, short_tables, no_plan, short_buffer, cut_plan, bad_plan, unknown_number, no_tree, station_missed, false_total, not_a_sender}
 use Rattle.answer.specs.declared.SheetFault.{SheetFault}
 use Rattle.answer.specs.declared.SheetFault.TheVariants.{ShortSheet, StrangeMark, BadHead, NoSuchSite, NoSuchStation, Loop, BadPrice, TooManyLegs, AfterTheEnd, Unheard}
@@ -12,12 +12,8 @@ use Rattle.answer.specs.declared.PlanFault.{PlanFault}
 use Rattle.answer.specs.declared.PlanFault.TheVariants.{CutPlan, BadPlan, UnknownNumber, NoTree, StationMissed, FalseTotal, NotASender}
 use Rattle.answer.specs.declared.Refusal.{Refusal}
 use Rattle.answer.specs.declared.Refusal.TheVariants.{Sheet, Tables, Search, PlanFile}
-use Rattle.answer.specs.declared.Answer.{Answer}
-use Rattle.answer.specs.declared.Answer.TheVariants.{Plan, Refused}
-use Rattle.answer.specs.declared.Enquiry.{Enquiry}
-use Rattle.answer.specs.declared.Enquiry.TheVariants.{Cell, Sender, NoSender, Refused as RefusedEnquiry}
-use Rattle.answer.specs.declared.Sharing.{Sharing}
-use Rattle.answer.specs.declared.Sharing.TheVariants.{Shared, Refused as RefusedSharing}
+use Rattle.answer.specs.declared.Plan.{Plan}
+use Rattle.answer.specs.declared.Shared.{Shared}
 
 -- what caused a refusal
 pub data Family : Type 0 where
@@ -79,19 +75,32 @@ family_of (Tables fault) = of_tables
 family_of (Search fault) = of_search
 family_of (PlanFile fault) = of_plan_file
 
--- the answer of the engine or of the plan reader
-abbrev pub stated : Answer → Stated
-stated (Plan root total arcs) = plan root total arcs
-stated (Refused refusal) = stated_refusal refusal
+-- an answer: what is stated of its value, or the refusal
+abbrev pub stated_as : {A : Type 0} → (A → Stated) → Result A Refusal → Stated
+stated_as value (Ok a) = value a
+stated_as value (Err refusal) = stated_refusal refusal
 
--- the answer of the enquirer
-abbrev pub stated_enquiry : Enquiry → Stated
-stated_enquiry (Cell cost) = cell cost
-stated_enquiry (Sender node) = sender node
-stated_enquiry NoSender = no_sender
-stated_enquiry (RefusedEnquiry refusal) = stated_refusal refusal
+-- the answer of the engine or of the plan reader
+abbrev pub stated_plan : Plan → Stated
+stated_plan p = plan p.root p.total p.arcs
+
+abbrev pub stated : Result Plan Refusal → Stated
+stated = stated_as stated_plan
+
+-- the answers of the enquirer
+abbrev pub stated_cell : Result ℕ Refusal → Stated
+stated_cell = stated_as cell
+
+abbrev pub stated_best : Option ℕ → Stated
+stated_best (Some node) = sender node
+stated_best None = no_sender
+
+abbrev pub stated_sender : Result (Option ℕ) Refusal → Stated
+stated_sender = stated_as stated_best
 
 -- the answer to a request for shares
-abbrev pub stated_sharing : Sharing → Stated
-stated_sharing (Shared root total arcs unassigned) = shared root total arcs unassigned
-stated_sharing (RefusedSharing refusal) = stated_refusal refusal
+abbrev pub stated_shares : Shared → Stated
+stated_shares s = shared s.plan.root s.plan.total s.plan.arcs s.unassigned
+
+abbrev pub stated_sharing : Result Shared Refusal → Stated
+stated_sharing = stated_as stated_shares

@@ -1,4 +1,4 @@
-// What is sent back: an answer of the engine or the plan reader, an answer of the enquirer, an answer with shares, and the refusals that they hold.
+// What is sent back: an answer of the engine or the plan reader, the answers of the enquirer, an answer with shares, and the refusals that they hold.
 // A refusal says first whether the sheet, the tables, the search or the plan file caused it.
 #![tactic(auto)]
 
@@ -55,33 +55,62 @@ pub enum Refusal {
     PlanFile(PlanFault),
 }
 
-// The answer of the engine and of the plan reader: a plan, or an accepted file, with the root, the total and the leg count that
-// stand in the file; or a refusal.
+// A plan, or an accepted plan file, with the root, the total and the leg count that stand in the file.
 #[derive(Clone, Copy)]
-pub enum Answer {
-    Plan { root: u16, total: u64, arcs: u16 },
-    Refused(Refusal),
+pub struct Plan {
+    pub root: u16,
+    pub total: u64,
+    pub arcs: u16,
 }
 
-// The answer of the enquirer: a cell as it stands in the table, a best sender, no sender ("none"), or a refusal.
+// An accepted plan file with its shares: what stands in the file, and the sum that no station pays.
 #[derive(Clone, Copy)]
-pub enum Enquiry {
-    Cell(u64),
-    Sender(u16),
-    NoSender,
-    Refused(Refusal),
+pub struct Shared {
+    pub plan: Plan,
+    pub unassigned: u64,
 }
 
-// The answer to a request for shares: the acceptance of the plan file, with the sum that no station pays; or a refusal.
-#[derive(Clone, Copy)]
-pub enum Sharing {
-    Shared {
-        root: u16,
-        total: u64,
-        arcs: u16,
-        unassigned: u64,
-    },
-    Refused(Refusal),
+// The answer of the engine and of the plan reader.
+pub type Answer = Result<Plan, Refusal>;
+
+// The answers of the enquirer: a cell as it stands in the table; a best sender, or no sender ("none").
+pub type CellAnswer = Result<u64, Refusal>;
+
+pub type SenderAnswer = Result<Option<u16>, Refusal>;
+
+// The answer to a request for shares.
+pub type Sharing = Result<Shared, Refusal>;
+
+impl From<SheetFault> for Refusal {
+    ghost from_gives = { λ fault refusal. refusal ≡ Sheet fault };
+
+    fn from(fault: SheetFault) -> Refusal {
+        Refusal::Sheet(fault)
+    }
+}
+
+impl From<TableFault> for Refusal {
+    ghost from_gives = { λ fault refusal. refusal ≡ Tables fault };
+
+    fn from(fault: TableFault) -> Refusal {
+        Refusal::Tables(fault)
+    }
+}
+
+impl From<SearchFault> for Refusal {
+    ghost from_gives = { λ fault refusal. refusal ≡ Search fault };
+
+    fn from(fault: SearchFault) -> Refusal {
+        Refusal::Search(fault)
+    }
+}
+
+impl From<PlanFault> for Refusal {
+    ghost from_gives = { λ fault refusal. refusal ≡ PlanFile fault };
+
+    fn from(fault: PlanFault) -> Refusal {
+        Refusal::PlanFile(fault)
+    }
 }
 
 // What a refusal returns: its number and its place.
@@ -91,111 +120,67 @@ pub struct Code {
     pub place: usize,
 }
 
-fn sheet_code(fault: SheetFault) -> Code
-    ensures { refused of_sheet result.number result.place ≡ stated_refusal (Sheet fault) }
-{
-    match fault {
-        SheetFault::ShortSheet(place) => Code {
-            number: limits::SHORT_SHEET,
-            place,
-        },
-        SheetFault::StrangeMark(place) => Code {
-            number: limits::STRANGE_MARK,
-            place,
-        },
-        SheetFault::BadHead(place) => Code {
-            number: limits::BAD_HEAD,
-            place,
-        },
-        SheetFault::NoSuchSite(place) => Code {
-            number: limits::NO_SUCH_SITE,
-            place,
-        },
-        SheetFault::NoSuchStation(place) => Code {
-            number: limits::NO_SUCH_STATION,
-            place,
-        },
-        SheetFault::Loop(place) => Code {
-            number: limits::LOOP,
-            place,
-        },
-        SheetFault::BadPrice(place) => Code {
-            number: limits::BAD_PRICE,
-            place,
-        },
-        SheetFault::TooManyLegs(place) => Code {
-            number: limits::TOO_MANY_LEGS,
-            place,
-        },
-        SheetFault::AfterTheEnd(place) => Code {
-            number: limits::AFTER_THE_END,
-            place,
-        },
-        SheetFault::Unheard(place) => Code {
-            number: limits::UNHEARD,
-            place,
-        },
+impl Code {
+    fn new(number: u8, place: usize) -> Code
+        ensures { (result.number ≡ number) × (result.place ≡ place) }
+    {
+        Code { number, place }
     }
 }
 
-fn table_code(fault: TableFault) -> Code
-    ensures { refused of_tables result.number result.place ≡ stated_refusal (Tables fault) }
-{
-    match fault {
-        TableFault::ShortTables => Code {
-            number: limits::SHORT_TABLES,
-            place: 0,
-        },
-        TableFault::ShortBuffer => Code {
-            number: limits::SHORT_BUFFER,
-            place: 0,
-        },
+impl From<SheetFault> for Code {
+    ghost from_gives = { λ fault code. refused of_sheet code.number code.place ≡ stated_refusal (Sheet fault) };
+
+    fn from(fault: SheetFault) -> Code {
+        match fault {
+            SheetFault::ShortSheet(place) => Code::new(limits::SHORT_SHEET, place),
+            SheetFault::StrangeMark(place) => Code::new(limits::STRANGE_MARK, place),
+            SheetFault::BadHead(place) => Code::new(limits::BAD_HEAD, place),
+            SheetFault::NoSuchSite(place) => Code::new(limits::NO_SUCH_SITE, place),
+            SheetFault::NoSuchStation(place) => Code::new(limits::NO_SUCH_STATION, place),
+            SheetFault::Loop(place) => Code::new(limits::LOOP, place),
+            SheetFault::BadPrice(place) => Code::new(limits::BAD_PRICE, place),
+            SheetFault::TooManyLegs(place) => Code::new(limits::TOO_MANY_LEGS, place),
+            SheetFault::AfterTheEnd(place) => Code::new(limits::AFTER_THE_END, place),
+            SheetFault::Unheard(place) => Code::new(limits::UNHEARD, place),
+        }
     }
 }
 
-fn search_code(fault: SearchFault) -> Code
-    ensures { refused of_search result.number result.place ≡ stated_refusal (Search fault) }
-{
-    match fault {
-        SearchFault::NoPlan => Code {
-            number: limits::NO_PLAN,
-            place: 0,
-        },
+impl From<TableFault> for Code {
+    ghost from_gives = { λ fault code. refused of_tables code.number code.place ≡ stated_refusal (Tables fault) };
+
+    fn from(fault: TableFault) -> Code {
+        match fault {
+            TableFault::ShortTables => Code::new(limits::SHORT_TABLES, 0),
+            TableFault::ShortBuffer => Code::new(limits::SHORT_BUFFER, 0),
+        }
     }
 }
 
-fn plan_code(fault: PlanFault) -> Code
-    ensures { refused of_plan_file result.number result.place ≡ stated_refusal (PlanFile fault) }
-{
-    match fault {
-        PlanFault::CutPlan => Code {
-            number: limits::CUT_PLAN,
-            place: 0,
-        },
-        PlanFault::BadPlan(place) => Code {
-            number: limits::BAD_PLAN,
-            place,
-        },
-        PlanFault::UnknownNumber(place) => Code {
-            number: limits::UNKNOWN_NUMBER,
-            place,
-        },
-        PlanFault::NoTree => Code {
-            number: limits::NO_TREE,
-            place: 0,
-        },
-        PlanFault::StationMissed => Code {
-            number: limits::STATION_MISSED,
-            place: 0,
-        },
-        PlanFault::FalseTotal => Code {
-            number: limits::FALSE_TOTAL,
-            place: 0,
-        },
-        PlanFault::NotASender => Code {
-            number: limits::NOT_A_SENDER,
-            place: 0,
-        },
+impl From<SearchFault> for Code {
+    ghost from_gives = { λ fault code. refused of_search code.number code.place ≡ stated_refusal (Search fault) };
+
+    fn from(fault: SearchFault) -> Code {
+        match fault {
+            SearchFault::NoPlan => Code::new(limits::NO_PLAN, 0),
+        }
+    }
+}
+
+impl From<PlanFault> for Code {
+    ghost from_gives = { λ fault code. refused of_plan_file code.number code.place ≡ stated_refusal (PlanFile fault) };
+
+    fn from(fault: PlanFault) -> Code {
+        match fault {
+            PlanFault::CutPlan => Code::new(limits::CUT_PLAN, 0),
+            PlanFault::BadPlan(place) => Code::new(limits::BAD_PLAN, place),
+            PlanFault::UnknownNumber(place) => Code::new(limits::UNKNOWN_NUMBER, place),
+            PlanFault::NoTree => Code::new(limits::NO_TREE, 0),
+            PlanFault::StationMissed => Code::new(limits::STATION_MISSED, 0),
+            PlanFault::FalseTotal => Code::new(limits::FALSE_TOTAL, 0),
+            PlanFault::NotASender => Code::new(limits::NOT_A_SENDER, 0),
+        }
     }
 }
 
@@ -204,9 +189,9 @@ pub fn code_of(refusal: Refusal) -> Code
     ensures { refused (family_of refusal) result.number result.place ≡ stated_refusal refusal }
 {
     match refusal {
-        Refusal::Sheet(fault) => sheet_code(fault),
-        Refusal::Tables(fault) => table_code(fault),
-        Refusal::Search(fault) => search_code(fault),
-        Refusal::PlanFile(fault) => plan_code(fault),
+        Refusal::Sheet(fault) => Code::from(fault),
+        Refusal::Tables(fault) => Code::from(fault),
+        Refusal::Search(fault) => Code::from(fault),
+        Refusal::PlanFile(fault) => Code::from(fault),
     }
 }

@@ -1,11 +1,12 @@
 // What an answer states, for C: a number and values. The number is returned, the values are written as far as there are entries for them.
 #![tactic(auto)]
 
-ghost use Rattle.std.specs.Prelude.{◌≡◌, set};
-ghost use Rattle.answer.specs.Stated.{stated, stated_enquiry, stated_sharing, stated_refusal};
-ghost use Rattle.c_values.specs.Values.{Gives};
+ghost use Rattle.std.specs.Prelude.{◌≡◌, refl, set, Some, None};
+ghost use Rattle.lists.specs.Over.{fit_over};
+ghost use Rattle.answer.specs.Stated.{Stated, cell, stated_plan, stated_best, stated_shares, stated_as};
+ghost use Rattle.c_values.specs.Values.{number_of, values_of, Gives};
 
-use answer::{Answer, Enquiry, Refusal, Sharing, code_of};
+use answer::{Plan, Refusal, Shared, code_of};
 
 // In the place of a site: no site is a best sender.
 const NO_SENDER: u64 = 18446744073709551615;
@@ -19,72 +20,82 @@ fn put(values: &mut [u64], at: usize, value: u64)
     }
 }
 
-// The place of a refusal, and its number.
-fn give_refusal(refusal: Refusal, values: &mut [u64]) -> u32
-    ensures { Gives (stated_refusal refusal) result values.old values.new }
-{
-    let code = code_of(refusal);
-    put(values, 0, code.place as u64);
-    code.number as u32
+// What stands for an answer in C: the values of it that are written.
+pub trait Given {
+    // What is stated of it.
+    ghost said: { Self → Stated };
+
+    // Its values are written, as far as there are entries for them.
+    fn put(self, values: &mut [u64])
+        ensures { values.new ≡ fit_over (values_of (said self)) values.old };
+
+    // The number 0 stands for it.
+    ghost zero: { (x : Self) → number_of (said x) ≡ 0 };
 }
 
 // Root, total and leg count of a plan.
-fn put_plan(root: u16, total: u64, arcs: u16, values: &mut [u64])
-    ensures { values.new ≡ set (set (set values.old 0 root) 1 total) 2 arcs }
-{
-    put(values, 0, root as u64);
-    put(values, 1, total);
-    put(values, 2, arcs as u64);
-}
+impl Given for Plan {
+    ghost said = { stated_plan };
 
-// Root, total and leg count of a plan, and 0; or the place of a refusal, and its number.
-pub fn give(sent: Answer, values: &mut [u64]) -> u32
-    ensures { Gives (stated sent) result values.old values.new }
-{
-    match sent {
-        Answer::Plan { root, total, arcs } => {
-            put_plan(root, total, arcs, values);
-            0
-        }
-        Answer::Refused(refusal) => give_refusal(refusal, values),
+    ghost zero = { λ x. refl };
+
+    fn put(self, values: &mut [u64]) {
+        put(values, 0, u64::from(self.root));
+        put(values, 1, self.total);
+        put(values, 2, u64::from(self.arcs));
     }
 }
 
-// Root, total, leg count and unassigned sum of a plan with shares, and 0; or the place of a refusal, and its number.
-pub fn give_sharing(sent: Sharing, values: &mut [u64]) -> u32
-    ensures { Gives (stated_sharing sent) result values.old values.new }
-{
-    match sent {
-        Sharing::Shared {
-            root,
-            total,
-            arcs,
-            unassigned,
-        } => {
-            put_plan(root, total, arcs, values);
-            put(values, 3, unassigned);
-            0
-        }
-        Sharing::Refused(refusal) => give_refusal(refusal, values),
+// The same, and the unassigned sum.
+impl Given for Shared {
+    ghost said = { stated_shares };
+
+    ghost zero = { λ x. refl };
+
+    fn put(self, values: &mut [u64]) {
+        self.plan.put(values);
+        put(values, 3, self.unassigned);
     }
 }
 
-// One value, and 0.
-fn give_value(value: u64, values: &mut [u64]) -> u32
-    ensures { (result ≡ 0) × (values.new ≡ set values.old 0 value) }
-{
-    put(values, 0, value);
-    0
+// A cell.
+impl Given for u64 {
+    ghost said = { cell };
+
+    ghost zero = { λ x. refl };
+
+    fn put(self, values: &mut [u64]) {
+        put(values, 0, self);
+    }
 }
 
-// A cell, the site of a best sender, or `NO_SENDER`, and 0; or the place of a refusal, and its number.
-pub fn give_enquiry(sent: Enquiry, values: &mut [u64]) -> u32
-    ensures { Gives (stated_enquiry sent) result values.old values.new }
+// The site of a best sender, or `NO_SENDER`.
+impl Given for Option<u16> {
+    ghost said = { stated_best };
+
+    ghost zero = { elim [ Some v ↦ refl | None ↦ refl ] };
+
+    fn put(self, values: &mut [u64]) {
+        match self {
+            Some(node) => put(values, 0, u64::from(node)),
+            None => put(values, 0, NO_SENDER),
+        }
+    }
+}
+
+// The values of an answer, and 0; or the place of a refusal, and its number.
+pub fn give<T: Given>(sent: Result<T, Refusal>, values: &mut [u64]) -> u32
+    ensures { Gives (stated_as T.said sent) result values.old values.new }
 {
     match sent {
-        Enquiry::Cell(cost) => give_value(cost, values),
-        Enquiry::Sender(node) => give_value(node as u64, values),
-        Enquiry::NoSender => give_value(NO_SENDER, values),
-        Enquiry::Refused(refusal) => give_refusal(refusal, values),
+        Ok(value) => {
+            value.put(values);
+            0
+        }
+        Err(refusal) => {
+            let code = code_of(refusal);
+            put(values, 0, code.place as u64);
+            u32::from(code.number)
+        }
     }
 }

@@ -9,7 +9,7 @@ ghost use Rattle.desk_words.specs.Stored.{Stored};
 ghost use Rattle.desk_answer.specs.AnswerText.{line_of, answer_text, listed_legs, most_bytes};
 ghost use Rattle.desk_answer.specs.Listable.{ArcsHeld, Listable};
 
-use answer::{Answer, code_of};
+use answer::{Answer, Plan, code_of};
 use desk_lines::{put_arc, put_first, put_refusal};
 use planfile::fields::arc_at;
 
@@ -29,10 +29,8 @@ fn put_arcs(
         at result text.old text.new }
     ensures upper_bound { result ≤ at + 102 * count }
 {
-    let arcs = count as usize;
     let mut next = at;
-    let mut i = 0;
-    while i < arcs {
+    for i in 0..count as usize {
         let e = arc_at(file, i) as usize;
         next = put_arc(
             text,
@@ -42,7 +40,6 @@ fn put_arcs(
             ends[e] as u64,
             weights[e] as u64,
         );
-        i += 1;
     }
     next
 }
@@ -62,11 +59,11 @@ pub fn put_answer(
     ensures upper_bound { result ≤ most_bytes (listed_legs (stated sent)) }
 {
     match sent {
-        Answer::Plan { root, total, arcs } => {
+        Ok(Plan { root, total, arcs }) => {
             let next = put_first(text, root as u64, total, arcs as u64);
             put_arcs(text, next, buffer, arcs, starts, ends, weights)
         }
-        Answer::Refused(refusal) => {
+        Err(refusal) => {
             let code = code_of(refusal);
             put_refusal(text, code.number as u64, code.place as u64)
         }

@@ -20,12 +20,10 @@ pub fn put_word(text: &mut [u8], at: usize, word: &[u8]) -> usize
     requires { at + length word.now < 2 ^ 64 }
     ensures { Stored word.now at result text.old text.new }
 {
-    let mut i = 0;
-    while i < word.len() {
-        put(text, at + i, word[i]);
-        i += 1;
+    for (i, byte) in word.iter().enumerate() {
+        put(text, at + i, *byte);
     }
-    at + i
+    at + word.len()
 }
 
 // A number, in decimal.

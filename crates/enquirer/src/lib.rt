@@ -4,10 +4,10 @@
 #![tactic(auto)]
 
 ghost use Rattle.std.specs.Prelude.{◌≡◌};
-ghost use Rattle.answer.specs.Stated.{stated_enquiry};
+ghost use Rattle.answer.specs.Stated.{stated_cell, stated_sender};
 ghost use Rattle.questions.specs.Questions.{cell_answer, sender_answer};
 
-use answer::Enquiry;
+use answer::{CellAnswer, SenderAnswer};
 use limits::Cost;
 use questions::cell_question::cell_in;
 use questions::sender_question::best_sender_in;
@@ -29,30 +29,36 @@ impl<'a> Enquirer<'a> {
     }
 
     // The cell for site v and the subset w.
-    pub fn cell(self, v: u32, w: u32) -> Enquiry
-        ensures { stated_enquiry result ≡ cell_answer self.entry.cells.now self.entry.n self.entry.k v w }
+    pub fn cell(self, v: u32, w: u32) -> CellAnswer
+        ensures { stated_cell result ≡ cell_answer self.entry.cells.now self.entry.n self.entry.k v w }
     {
         cell_in(self.cells, self.n, self.k, v, w)
     }
 
     // The best sender of the subset w, by these landing sets.
-    pub fn best_sender(self, landings: &'a [u16], w: u32) -> Enquiry
-        ensures { stated_enquiry result ≡ sender_answer self.entry.cells.now landings.now self.entry.n self.entry.k w }
+    pub fn best_sender(self, landings: &'a [u16], w: u32) -> SenderAnswer
+        ensures { stated_sender result ≡ sender_answer self.entry.cells.now landings.now self.entry.n self.entry.k w }
     {
         best_sender_in(self.cells, landings, self.n, self.k, w)
     }
 }
 
 // The cell for site v and the subset w, of a table for n sites and k stations.
-pub fn cell(cells: &[Cost], n: u32, k: u32, v: u32, w: u32) -> Enquiry
-    ensures { stated_enquiry result ≡ cell_answer cells.now n k v w }
+pub fn cell(cells: &[Cost], n: u32, k: u32, v: u32, w: u32) -> CellAnswer
+    ensures { stated_cell result ≡ cell_answer cells.now n k v w }
 {
     Enquirer::new(cells, n, k).cell(v, w)
 }
 
 // The best sender of the subset w, of a table for n sites and k stations, by these landing sets.
-pub fn best_sender<'a>(cells: &'a [Cost], landings: &'a [u16], n: u32, k: u32, w: u32) -> Enquiry
-    ensures { stated_enquiry result ≡ sender_answer cells.now landings.now n k w }
+pub fn best_sender<'a>(
+    cells: &'a [Cost],
+    landings: &'a [u16],
+    n: u32,
+    k: u32,
+    w: u32,
+) -> SenderAnswer
+    ensures { stated_sender result ≡ sender_answer cells.now landings.now n k w }
 {
     Enquirer::new(cells, n, k).best_sender(landings, w)
 }

@@ -1,22 +1,15 @@
 // The flags of the senders in the first n entries of a landing table: each site gets one where no site has one.
-ghost use Rattle.std.specs.Prelude.{◌≡◌, ◌≤◌, length};
-ghost use Rattle.landing_entries.specs.laws.Flags.{some_sender, all_flagged, flagged_unless_some};
+ghost use Rattle.std.specs.Prelude.{◌≡◌, ◌≤◌, ◌↔◌, IsTrue, SomeIndex, length};
+ghost use Rattle.landing_entries.specs.Entries.{is_sender_at};
+ghost use Rattle.landing_entries.specs.laws.Flags.{all_flagged, flagged_unless_some};
 
 use crate::is_sender;
 
-// Whether one of the first n sites is a sender.
-fn has_sender(landings: &[u16], n: usize) -> bool
-    requires { n ≤ length landings.now }
-    ensures { result ≡ some_sender n landings.now }
+// Whether one of these sites is a sender.
+fn has_sender(landings: &[u16]) -> bool
+    ensures { IsTrue result ↔ SomeIndex landings.now (λ v. IsTrue (is_sender_at landings.now v)) }
 {
-    let mut v = 0;
-    while v < n {
-        if is_sender(landings[v]) {
-            return true;
-        }
-        v += 1;
-    }
-    false
+    landings.iter().any(|entry| is_sender(*entry))
 }
 
 // Each of the first n sites is made a sender.
@@ -24,10 +17,8 @@ fn flag_all(landings: &mut [u16], n: usize)
     requires { n ≤ length landings.old }
     ensures { landings.new ≡ all_flagged n landings.old }
 {
-    let mut v = 0;
-    while v < n {
-        landings[v] = landings[v] | limits::SENDER_FLAG;
-        v += 1;
+    for v in 0..n {
+        landings[v] |= limits::SENDER_FLAG;
     }
 }
 
@@ -36,8 +27,7 @@ pub fn flag_unless_some(landings: &mut [u16], n: usize)
     requires { n ≤ length landings.old }
     ensures { landings.new ≡ flagged_unless_some n landings.old }
 {
-    if has_sender(landings, n) {
-        return;
+    if !has_sender(&landings[..n]) {
+        flag_all(landings, n);
     }
-    flag_all(landings, n);
 }

@@ -3,34 +3,32 @@
 -- The index of the legs by their end (document 02, W-202) has "one entry a leg" and "n + 1 starting places"; "Its two tables are needed tables of the
 -- search, not of the plan reader". "a share table under k entries counts in 11" (W-204), of the shares alone.
 -- Assumes nothing.
-use Rattle.std.specs.Prelude.{ℕ, ◌+◌, ◌*◌, ◌^◌, ◌≤◌, Bool, true, ◌&&◌, leb, length}
+use Rattle.std.specs.Prelude.{ℕ, ◌+◌, ◌*◌, ◌^◌, ◌≤◌, Bool, true, ◌&&◌, leb, length, Option, Some, None}
 use Rattle.lent_tables.specs.SheetTables.{SheetTables, Long}
-use Rattle.lent_tables.specs.declared.TableLength.{TableLength}
-use Rattle.lent_tables.specs.declared.TableLength.TheVariants.{Entries, NotNeeded}
 use Rattle.lent_tables.specs.declared.FurtherLengths.{FurtherLengths}
 
 -- ---- the further tables of an entry point
 
 -- none; the marks; the marks and the shares; those of the search, with so many entries
 abbrev pub no_further : FurtherLengths
-no_further = record { by_end = NotNeeded; places = NotNeeded; cells = NotNeeded; marks = NotNeeded; shares = NotNeeded }
+no_further = record { by_end = None; places = None; cells = None; marks = None; shares = None }
 
 abbrev pub marks_only : ℕ → FurtherLengths
-marks_only marks = record { by_end = NotNeeded; places = NotNeeded; cells = NotNeeded; marks = Entries marks; shares = NotNeeded }
+marks_only marks = record { by_end = None; places = None; cells = None; marks = Some marks; shares = None }
 
 abbrev pub share_lengths : (marks shares : ℕ) → FurtherLengths
-share_lengths marks shares = record { by_end = NotNeeded; places = NotNeeded; cells = NotNeeded; marks = Entries marks; shares = Entries shares }
+share_lengths marks shares = record { by_end = None; places = None; cells = None; marks = Some marks; shares = Some shares }
 
 abbrev pub search_lengths : (by_end places cells marks : ℕ) → FurtherLengths
 search_lengths by_end places cells marks =
-    record { by_end = Entries by_end; places = Entries places; cells = Entries cells; marks = Entries marks; shares = NotNeeded }
+    record { by_end = Some by_end; places = Some places; cells = Some cells; marks = Some marks; shares = None }
 
 -- ---- long enough
 
 -- a further table has so many entries, where it is needed
-abbrev pub Enough : ℕ → TableLength → Type 0
-Enough need (Entries count) = need ≤ count
-Enough need NotNeeded = Unit {0}
+abbrev pub Enough : ℕ → Option ℕ → Type 0
+Enough need (Some count) = need ≤ count
+Enough need None = Unit {0}
 
 -- the further tables are long enough for n sites, k stations and so many legs
 pub record FurtherLong (n k arc_count : ℕ) (f : FurtherLengths) : Type 0 where
@@ -47,9 +45,9 @@ pub record AllLong (n k arc_count : ℕ) (t : SheetTables) (f : FurtherLengths) 
 
 -- ---- the same as tests
 
-abbrev pub is_enough : ℕ → TableLength → Bool
-is_enough need (Entries count) = leb need count
-is_enough need NotNeeded = true
+abbrev pub is_enough : ℕ → Option ℕ → Bool
+is_enough need (Some count) = leb need count
+is_enough need None = true
 
 abbrev pub further_pass : (n k arc_count : ℕ) → FurtherLengths → Bool
 further_pass n k arc_count f =

@@ -8,31 +8,25 @@ ghost use Rattle.lent_tables.specs.Lengths.{is_enough, further_pass, lengths_pas
 
 use subset::sets_of;
 
-// The length of a further table, one that is not loaded with the sheet: its number of entries, where it is needed.
-#[derive(Clone, Copy)]
-pub enum TableLength {
-    Entries(usize),
-    NotNeeded,
-}
-
-// The lengths of all further tables: leg numbers by end (one entry a leg), starting places (n + 1), cells (n times 2^k), marks (n) and shares (k).
+// The lengths of all further tables, those that are not loaded with the sheet: leg numbers by end (one entry a leg), starting places (n + 1), cells
+// (n times 2^k), marks (n) and shares (k). None where a table is not needed.
 #[derive(Clone, Copy)]
 pub struct FurtherLengths {
-    pub by_end: TableLength,
-    pub places: TableLength,
-    pub cells: TableLength,
-    pub marks: TableLength,
-    pub shares: TableLength,
+    pub by_end: Option<usize>,
+    pub places: Option<usize>,
+    pub cells: Option<usize>,
+    pub marks: Option<usize>,
+    pub shares: Option<usize>,
 }
 
 impl FurtherLengths {
     // No further table is needed.
     pub const NONE: FurtherLengths = FurtherLengths {
-        by_end: TableLength::NotNeeded,
-        places: TableLength::NotNeeded,
-        cells: TableLength::NotNeeded,
-        marks: TableLength::NotNeeded,
-        shares: TableLength::NotNeeded,
+        by_end: None,
+        places: None,
+        cells: None,
+        marks: None,
+        shares: None,
     };
 
     // The marks are needed.
@@ -40,11 +34,8 @@ impl FurtherLengths {
         ensures { result ≡ marks_only marks }
     {
         FurtherLengths {
-            by_end: TableLength::NotNeeded,
-            places: TableLength::NotNeeded,
-            cells: TableLength::NotNeeded,
-            marks: TableLength::Entries(marks),
-            shares: TableLength::NotNeeded,
+            marks: Some(marks),
+            ..FurtherLengths::NONE
         }
     }
 
@@ -53,7 +44,7 @@ impl FurtherLengths {
         ensures { result ≡ share_lengths marks shares }
     {
         FurtherLengths {
-            shares: TableLength::Entries(shares),
+            shares: Some(shares),
             ..FurtherLengths::of_marks(marks)
         }
     }
@@ -63,22 +54,21 @@ impl FurtherLengths {
         ensures { result ≡ search_lengths by_end places cells marks }
     {
         FurtherLengths {
-            by_end: TableLength::Entries(by_end),
-            places: TableLength::Entries(places),
-            cells: TableLength::Entries(cells),
-            marks: TableLength::Entries(marks),
-            shares: TableLength::NotNeeded,
+            by_end: Some(by_end),
+            places: Some(places),
+            cells: Some(cells),
+            ..FurtherLengths::of_marks(marks)
         }
     }
 }
 
 // Whether a further table has so many entries, where it is needed.
-fn is_enough(need: usize, table: TableLength) -> bool
+fn is_enough(need: usize, table: Option<usize>) -> bool
     ensures { result ≡ is_enough need table }
 {
     match table {
-        TableLength::Entries(count) => need <= count,
-        TableLength::NotNeeded => true,
+        Some(count) => need <= count,
+        None => true,
     }
 }
 
@@ -87,25 +77,12 @@ fn further_enough(n: u16, k: u8, arcs: u16, further: FurtherLengths) -> bool
     requires { k ≤ max_terminals }
     ensures { result ≡ further_pass n k arcs further }
 {
-    let by_end = further.by_end;
-    if !is_enough(arcs as usize, by_end) {
-        return false;
-    }
     let node_count = n as usize;
-    let places = further.places;
-    if !is_enough(node_count + 1, places) {
-        return false;
-    }
-    let cells = further.cells;
-    if !is_enough(node_count * sets_of(k), cells) {
-        return false;
-    }
-    let marks = further.marks;
-    if !is_enough(node_count, marks) {
-        return false;
-    }
-    let shares = further.shares;
-    is_enough(k as usize, shares)
+    is_enough(arcs as usize, further.by_end)
+        && is_enough(node_count + 1, further.places)
+        && is_enough(node_count * sets_of(k), further.cells)
+        && is_enough(node_count, further.marks)
+        && is_enough(k as usize, further.shares)
 }
 
 // Whether all tables of these lengths are.
@@ -123,17 +100,9 @@ pub fn long_enough(
     ensures { result ≡ lengths_pass n k arcs starts ends weights landings further }
 {
     let arc_count = arcs as usize;
-    if starts < arc_count {
-        return false;
-    }
-    if ends < arc_count {
-        return false;
-    }
-    if weights < arc_count {
-        return false;
-    }
-    if landings < n as usize {
-        return false;
-    }
-    further_enough(n, k, arcs, further)
+    arc_count <= starts
+        && arc_count <= ends
+        && arc_count <= weights
+        && n as usize <= landings
+        && further_enough(n, k, arcs, further)
 }

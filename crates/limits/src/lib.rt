@@ -3,6 +3,14 @@
 // meets one of them on both sides fails where the two differ.
 #![tactic(auto)]
 
+// How many sites, stations and legs a sheet has.
+#[derive(Clone, Copy)]
+pub struct Counts {
+    pub n: u16,
+    pub k: u8,
+    pub arcs: u16,
+}
+
 // The fewest and the most sites and stations, and the most legs of a sheet.
 pub const MIN_NODES: u16 = 1;
 

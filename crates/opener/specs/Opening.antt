@@ -1,9 +1,10 @@
 -- What the opening of a sheet comes to (document 01, "What is sent back"): the sheet's refusal, 1 to 10; 11, "a needed table is too short"; or
 -- the sheet. "1 to 11 touch nothing"; an opened sheet stands in the tables.
 -- Assumes nothing.
-use Rattle.std.specs.Prelude.{ℕ, Bool, cond, List, length}
+use Rattle.std.specs.Prelude.{ℕ, Bool, cond, List, length, Result, Ok, Err}
 use Rattle.limits.specs.Refusals.{short_tables}
 use Rattle.answer.specs.Stated.{Stated, refused, of_tables, stated_sheet, stated_refusal}
+use Rattle.answer.specs.declared.Refusal.{Refusal}
 use Rattle.lent_tables.specs.SheetTables.{SheetTables}
 use Rattle.records.specs.Arcs.{arcs}
 use Rattle.sheet.specs.Verdict.{Verdict, good, bad, verdict}
@@ -11,8 +12,8 @@ use Rattle.records.specs.declared.record.Record.{Record}
 use Rattle.record_tables.specs.Loaded.{loaded}
 use Rattle.lent_tables.specs.Lengths.{are_long}
 use Rattle.lent_tables.specs.declared.FurtherLengths.{FurtherLengths}
-use Rattle.opener.specs.declared.Loaded.{Loaded}
-use Rattle.opener.specs.declared.Loaded.TheVariants.{Sheet, Refused}
+use Rattle.limits.specs.declared.Counts.{Counts}
+use Rattle.limits.specs.Counts.{counts}
 
 -- a refusal, 1 to 11, or a good sheet with its sites, stations and records
 pub data SheetOpening : Type 0 where
@@ -41,9 +42,9 @@ pub data Returned : Type 0 where
   sheet : (n k arc_count : ℕ) → Returned
   refusal : Stated → Returned
 
-abbrev pub returned : Loaded → Returned
-returned (Sheet n k arc_count) = sheet n k arc_count
-returned (Refused r) = refusal (stated_refusal r)
+abbrev pub returned : Result Counts Refusal → Returned
+returned (Ok c) = sheet c.n c.k c.arcs
+returned (Err r) = refusal (stated_refusal r)
 
 pub record Outcome : Type 0 where
   pub result : Returned

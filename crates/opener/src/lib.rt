@@ -9,17 +9,12 @@ ghost use Rattle.opener.specs.Opening.{returned, outcome, loading_of};
 
 use answer::{Refusal, TableFault};
 use lent_tables::{FurtherLengths, long_enough};
+use limits::Counts;
 use loader::load;
-use sheet::judge::{Judged, judge};
+use sheet::judge::judge;
 
-// What an opening gives: the sites, stations and number of legs of the sheet that the tables now hold, or the refusal, 1 to 11.
-#[derive(Clone, Copy)]
-pub enum Loaded {
-    Sheet { n: u16, k: u8, arcs: u16 },
-    Refused(Refusal),
-}
-
-// A sheet is opened; `further` has the lengths of the further tables that are needed.
+// A sheet is opened: the counts of the sheet that the tables now hold, or the refusal, 1 to 11. `further` has the lengths of the further tables that
+// are needed.
 pub fn open_sheet(
     sheet: &[u8],
     starts: &mut [u16],
@@ -27,31 +22,26 @@ pub fn open_sheet(
     weights: &mut [u32],
     landings: &mut [u16],
     further: FurtherLengths,
-) -> Loaded
+) -> Result<Counts, Refusal>
     ensures { let before = sheet_tables starts.old ends.old weights.old landings.old in
         let after = sheet_tables starts.new ends.new weights.new landings.new in
         outcome (returned result) after ≡ loading_of sheet.now before further }
 {
-    let judged = judge(sheet);
-    match judged {
-        Judged::Fault(fault) => Loaded::Refused(Refusal::Sheet(fault)),
-        Judged::Good { n, k, arcs } => {
-            if long_enough(
-                n,
-                k,
-                arcs,
-                starts.len(),
-                ends.len(),
-                weights.len(),
-                landings.len(),
-                further,
-            ) {
-                load(sheet, n, starts, ends, weights, landings);
-                return Loaded::Sheet { n, k, arcs };
-            }
-            Loaded::Refused(Refusal::Tables(TableFault::ShortTables))
-        }
+    let counts = judge(sheet)?;
+    if !long_enough(
+        counts.n,
+        counts.k,
+        counts.arcs,
+        starts.len(),
+        ends.len(),
+        weights.len(),
+        landings.len(),
+        further,
+    ) {
+        return Err(Refusal::from(TableFault::ShortTables));
     }
+    load(sheet, counts.n, starts, ends, weights, landings);
+    Ok(counts)
 }
 
 // The loading of a sheet alone: no further table is needed.
@@ -61,7 +51,7 @@ pub fn load_sheet(
     ends: &mut [u16],
     weights: &mut [u32],
     landings: &mut [u16],
-) -> Loaded
+) -> Result<Counts, Refusal>
     ensures { let before = sheet_tables starts.old ends.old weights.old landings.old in
         let after = sheet_tables starts.new ends.new weights.new landings.new in
         outcome (returned result) after ≡ loading_of sheet.now before no_further }

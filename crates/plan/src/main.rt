@@ -2,25 +2,8 @@
 // standard output. Where that fails it says so on standard error. Its stored run is sheet A.
 #![tactic(auto)]
 
-ghost use Rattle.std.specs.Prelude.{◌≤◌, length};
-
 use desk::{MAX_BYTES, TEXT_BYTES, desk_text};
-use std::io::Read;
-
-// Reads until the buffer is full, the input ends or a read fails, and gives how many bytes stand at its start.
-fn read_full<R: Read>(input: &mut R, bytes: &mut [u8]) -> usize
-    ensures { result ≤ length bytes.new }
-{
-    let mut done = 0;
-    while done < bytes.len() {
-        let count = input.read(&mut bytes[done..]).unwrap_or(0);
-        if count == 0 {
-            break;
-        }
-        done += count;
-    }
-    done
-}
+use read_input::read_full;
 
 fn main(rt: HostRuntime) {
     let mut input = [0u8; MAX_BYTES + 1];

@@ -9,16 +9,10 @@ use subset::sets_of;
 pub fn in_range(n: u32, k: u32) -> bool
     ensures { result ≡ in_range n k }
 {
-    if n < (limits::MIN_NODES as u32) {
-        return false;
-    }
-    if (limits::MAX_NODES as u32) < n {
-        return false;
-    }
-    if k < (limits::MIN_TERMINALS as u32) {
-        return false;
-    }
-    k <= (limits::MAX_TERMINALS as u32)
+    u32::from(limits::MIN_NODES) <= n
+        && n <= u32::from(limits::MAX_NODES)
+        && u32::from(limits::MIN_TERMINALS) <= k
+        && k <= u32::from(limits::MAX_TERMINALS)
 }
 
 // The number of subsets of k stations.

@@ -2,37 +2,24 @@
 // What the loading gave goes to standard output.
 #![tactic(auto)]
 
-ghost use Rattle.std.specs.Prelude.{◌≤◌, length};
-
+use limits::{MAX_ARCS, MAX_NODES};
 use opener::load_sheet;
+use read_input::read_full;
+use sheet_text::print_loaded;
 use std::io;
-use std::io::Read;
 
-// Reads until the buffer is full, the input ends or a read fails, and gives how many bytes stand at its start.
-fn read_full<R: Read>(input: &mut R, bytes: &mut [u8]) -> usize
-    ensures { result ≤ length bytes.new }
-{
-    let mut done = 0;
-    while done < bytes.len() {
-        let count = input.read(&mut bytes[done..]).unwrap_or(0);
-        if count == 0 {
-            break;
-        }
-        done += count;
-    }
-    done
-}
+const MAX_BYTES: usize = 262_144;
 
 fn main(rt: HostRuntime) -> io::Result<()> {
-    let mut bytes = [0u8; 262145];
+    let mut bytes = [0u8; MAX_BYTES + 1];
     let size = read_full(&mut rt.stdin(), &mut bytes);
-    if 262144 < size {
-        return sheet_text::print(&rt, b"too long\n");
+    if MAX_BYTES < size {
+        return println!(rt; "too long");
     }
-    let mut starts = [0u16; limits::MAX_ARCS as usize];
-    let mut ends = [0u16; limits::MAX_ARCS as usize];
-    let mut weights = [0u32; limits::MAX_ARCS as usize];
-    let mut landings = [0u16; limits::MAX_NODES as usize];
+    let mut starts = [0u16; MAX_ARCS as usize];
+    let mut ends = [0u16; MAX_ARCS as usize];
+    let mut weights = [0u32; MAX_ARCS as usize];
+    let mut landings = [0u16; MAX_NODES as usize];
     let loaded = load_sheet(
         &bytes[..size],
         &mut starts,
@@ -40,5 +27,5 @@ fn main(rt: HostRuntime) -> io::Result<()> {
         &mut weights,
         &mut landings,
     );
-    sheet_text::print_loaded(&rt, loaded, &starts, &ends, &weights, &landings)
+    print_loaded(&rt, loaded, &starts, &ends, &weights, &landings)
 }

@@ -22,14 +22,6 @@ pub struct Reading {
     pub heard: Subset,
 }
 
-// One record further: the state after it, the end, or the refusal.
-#[derive(Clone, Copy)]
-pub enum Step {
-    Next(Reading),
-    End,
-    Fault(SheetFault),
-}
-
 impl Reading {
     // What stands next, where `rest` is the sheet from the offset on. The fields after the mark are a part of their own.
     fn found(self, rest: &[u8]) -> Found
@@ -37,25 +29,17 @@ impl Reading {
         ensures { result ≡ found_in self rest.now }
     {
         if rest.len() < 2 {
-            return Found::Fault(SheetFault::ShortSheet(self.offset));
+            return Err(SheetFault::ShortSheet(self.offset));
         }
-        let mark = u16_at(rest, 0);
-        if mark == limits::MARK_LK {
-            return one_way(self.offset, self.n, self.arcs, &rest[2..]);
+        let fields = &rest[2..];
+        match u16_at(rest, 0) {
+            limits::MARK_LK => one_way(self.offset, self.n, self.arcs, fields),
+            limits::MARK_BK => both_ways(self.offset, self.n, self.arcs, fields),
+            limits::MARK_ST => landing(self.offset, self.n, self.k, fields),
+            limits::MARK_SR => sender(self.offset, self.n, fields),
+            limits::MARK_ED => end(self.offset, self.k, self.heard, fields),
+            _ => Err(SheetFault::StrangeMark(self.offset)),
         }
-        if mark == limits::MARK_BK {
-            return both_ways(self.offset, self.n, self.arcs, &rest[2..]);
-        }
-        if mark == limits::MARK_ST {
-            return landing(self.offset, self.n, self.k, &rest[2..]);
-        }
-        if mark == limits::MARK_SR {
-            return sender(self.offset, self.n, &rest[2..]);
-        }
-        if mark == limits::MARK_ED {
-            return end(self.offset, self.k, self.heard, &rest[2..]);
-        }
-        Found::Fault(SheetFault::StrangeMark(self.offset))
     }
 
     // The state after a record.
@@ -63,25 +47,22 @@ impl Reading {
         requires { Room self item }
         ensures { result ≡ after self item }
     {
-        let heard = self.heard;
-        let mut next = self;
-        next.offset = self.offset + item.size();
-        next.arcs = self.arcs + item.arc_count();
-        next.heard = heard.union(item.heard());
-        next
+        Reading {
+            offset: self.offset + item.size(),
+            arcs: self.arcs + item.arc_count(),
+            heard: self.heard.union(item.heard()),
+            ..self
+        }
     }
 
-    // One record: the state one record further, the end, or the refusal.
-    pub fn step(self, sheet: &[u8]) -> Step
+    // One record: the state one record further, the end (none), or the refusal.
+    pub fn step(self, sheet: &[u8]) -> Result<Option<Reading>, SheetFault>
         requires { (self.arcs ≤ max_arcs) × (self.k ≤ max_terminals) × (self.offset ≤ length sheet.now) }
         ensures { result ≡ step_of self sheet.now }
     {
-        let at = self.offset;
-        let found = self.found(&sheet[at..]);
-        match found {
-            Found::Item(record) => Step::Next(self.after(record)),
-            Found::End => Step::End,
-            Found::Fault(fault) => Step::Fault(fault),
+        match self.found(&sheet[self.offset..])? {
+            Some(record) => Ok(Some(self.after(record))),
+            None => Ok(None),
         }
     }
 }

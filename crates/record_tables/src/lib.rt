@@ -54,7 +54,7 @@ fn join_entry(landings: &mut [u16], node: u16, more: u16)
     ensures { landings.new ≡ set landings.old node (union (get_or landings.old node 0) more) }
 {
     let v = node as usize;
-    landings[v] = landings[v] | more;
+    landings[v] |= more;
 }
 
 // One record, where `at` legs stand in the tables.
@@ -94,9 +94,5 @@ pub fn clear_landings(landings: &mut [u16], n: usize)
     requires { n ≤ length landings.old }
     ensures { landings.new ≡ replicate n 0 ++ drop n landings.old }
 {
-    let mut v = 0;
-    while v < n {
-        landings[v] = 0;
-        v += 1;
-    }
+    landings[..n].fill(0);
 }

@@ -9,19 +9,12 @@ ghost use Rattle.records.specs.Arcs.{arcs_of};
 ghost use Rattle.record_tests.specs.Tests.{link_tests, one_way_found, both_ways_found, landing_found, sender_found, end_found};
 
 use answer::SheetFault;
-use records::fields::{
-    LandingFields, LinkFields, SenderFields, landing_fields, link_fields, sender_fields,
-};
+use records::fields::{Landing, Link, landing_fields, link_fields, sender_fields};
 use records::record::Record;
 use subset::Subset;
 
-// What stands next: a record that passes its tests, the end, or the refusal.
-#[derive(Clone, Copy)]
-pub enum Found {
-    Item(Record),
-    End,
-    Fault(SheetFault),
-}
+// What stands next: a record that passes its tests, the end (none), or the refusal.
+pub type Found = Result<Option<Record>, SheetFault>;
 
 // The tests of a link, in their order; `count` is the number of its legs.
 fn tested_link(
@@ -38,24 +31,24 @@ fn tested_link(
     ensures { result ≡ link_tests at n arcs start end weight item }
 {
     if n <= start {
-        return Found::Fault(SheetFault::NoSuchSite(at));
+        return Err(SheetFault::NoSuchSite(at));
     }
     if n <= end {
-        return Found::Fault(SheetFault::NoSuchSite(at));
+        return Err(SheetFault::NoSuchSite(at));
     }
     if start == end {
-        return Found::Fault(SheetFault::Loop(at));
+        return Err(SheetFault::Loop(at));
     }
     if weight < limits::MIN_WEIGHT {
-        return Found::Fault(SheetFault::BadPrice(at));
+        return Err(SheetFault::BadPrice(at));
     }
     if limits::MAX_WEIGHT < weight {
-        return Found::Fault(SheetFault::BadPrice(at));
+        return Err(SheetFault::BadPrice(at));
     }
     if limits::MAX_ARCS < arcs + count {
-        return Found::Fault(SheetFault::TooManyLegs(at));
+        return Err(SheetFault::TooManyLegs(at));
     }
-    Found::Item(item)
+    Ok(Some(item))
 }
 
 // `LK`.
@@ -63,14 +56,9 @@ pub fn one_way(at: usize, n: u16, arcs: u16, fields: &[u8]) -> Found
     requires { arcs ≤ max_arcs }
     ensures { result ≡ one_way_found at n arcs (link_fields fields.now) }
 {
-    let read = link_fields(fields);
-    match read {
-        LinkFields::Short => Found::Fault(SheetFault::ShortSheet(at)),
-        LinkFields::Fields { start, end, weight } => {
-            let record = Record::OneWay { start, end, weight };
-            tested_link(at, n, arcs, start, end, weight, 1, record)
-        }
-    }
+    let Link { start, end, weight } = link_fields(fields).ok_or(SheetFault::ShortSheet(at))?;
+    let record = Record::OneWay { start, end, weight };
+    tested_link(at, n, arcs, start, end, weight, 1, record)
 }
 
 // `BK`.
@@ -78,49 +66,34 @@ pub fn both_ways(at: usize, n: u16, arcs: u16, fields: &[u8]) -> Found
     requires { arcs ≤ max_arcs }
     ensures { result ≡ both_ways_found at n arcs (link_fields fields.now) }
 {
-    let read = link_fields(fields);
-    match read {
-        LinkFields::Short => Found::Fault(SheetFault::ShortSheet(at)),
-        LinkFields::Fields { start, end, weight } => {
-            let record = Record::BothWays { start, end, weight };
-            tested_link(at, n, arcs, start, end, weight, 2, record)
-        }
-    }
+    let Link { start, end, weight } = link_fields(fields).ok_or(SheetFault::ShortSheet(at))?;
+    let record = Record::BothWays { start, end, weight };
+    tested_link(at, n, arcs, start, end, weight, 2, record)
 }
 
 // `ST`.
 pub fn landing(at: usize, n: u16, k: u8, fields: &[u8]) -> Found
     ensures { result ≡ landing_found at n k (landing_fields fields.now) }
 {
-    let read = landing_fields(fields);
-    match read {
-        LandingFields::Short => Found::Fault(SheetFault::ShortSheet(at)),
-        LandingFields::Fields { terminal, node } => {
-            if k <= terminal {
-                return Found::Fault(SheetFault::NoSuchStation(at));
-            }
-            if n <= node {
-                return Found::Fault(SheetFault::NoSuchSite(at));
-            }
-            Found::Item(Record::Landing { terminal, node })
-        }
+    let Landing { terminal, node } = landing_fields(fields).ok_or(SheetFault::ShortSheet(at))?;
+    if k <= terminal {
+        return Err(SheetFault::NoSuchStation(at));
     }
+    if n <= node {
+        return Err(SheetFault::NoSuchSite(at));
+    }
+    Ok(Some(Record::Landing { terminal, node }))
 }
 
 // `SR`.
 pub fn sender(at: usize, n: u16, fields: &[u8]) -> Found
     ensures { result ≡ sender_found at n (sender_fields fields.now) }
 {
-    let read = sender_fields(fields);
-    match read {
-        SenderFields::Short => Found::Fault(SheetFault::ShortSheet(at)),
-        SenderFields::Fields { node } => {
-            if n <= node {
-                return Found::Fault(SheetFault::NoSuchSite(at));
-            }
-            Found::Item(Record::Sender { node })
-        }
+    let node = sender_fields(fields).ok_or(SheetFault::ShortSheet(at))?;
+    if n <= node {
+        return Err(SheetFault::NoSuchSite(at));
     }
+    Ok(Some(Record::Sender { node }))
 }
 
 // `ED`; `heard` are the stations heard so far.
@@ -129,10 +102,10 @@ pub fn end(at: usize, k: u8, heard: Subset, fields: &[u8]) -> Found
     ensures { result ≡ end_found at k heard.0 (length fields.now) }
 {
     if 0 < fields.len() {
-        return Found::Fault(SheetFault::AfterTheEnd(at + 2));
+        return Err(SheetFault::AfterTheEnd(at + 2));
     }
     if heard.0 == Subset::full(k).0 {
-        return Found::End;
+        return Ok(None);
     }
-    Found::Fault(SheetFault::Unheard(at))
+    Err(SheetFault::Unheard(at))
 }

@@ -1,44 +1,40 @@
 -- The records of a sheet: the fields of each, read from the bytes after its mark, the bytes that it takes, and its own tests.
 -- Assumes nothing.
-use Rattle.std.specs.Prelude.{ℕ, ◌≤◌, ◌<◌, ◌≡◌, cond, List, [], ◌∷◌, ◌++◌, length, ltb}
+use Rattle.std.specs.Prelude.{ℕ, ◌≤◌, ◌<◌, ◌≡◌, cond, Option, Some, None, List, [], ◌∷◌, ◌++◌, length, ltb}
 use Rattle.limits.specs.Limits.{min_weight, max_weight}
 use Rattle.limits.specs.Marks.{mark_hd, mark_lk, mark_bk, mark_st, mark_sr, mark_ed}
 use Rattle.lists.specs.Joined.{joined}
 use Rattle.number_fields.specs.Fields.{number8, number16, number32, bytes16, bytes32}
-use Rattle.records.specs.declared.fields.HeadFields.{HeadFields}
-use Rattle.records.specs.declared.fields.HeadFields.TheVariants.{Short as NoHead, Fields as Head}
+use Rattle.records.specs.declared.fields.Head.{Head}
 use Rattle.records.specs.declared.fields.Link.{Link}
-use Rattle.records.specs.declared.fields.LinkFields.{LinkFields}
-use Rattle.records.specs.declared.fields.LinkFields.TheVariants.{Short as NoLink, Fields as LinkOf}
 use Rattle.records.specs.declared.fields.Landing.{Landing as LandingAt}
-use Rattle.records.specs.declared.fields.LandingFields.{LandingFields}
-use Rattle.records.specs.declared.fields.LandingFields.TheVariants.{Short as NoLanding, Fields as LandingOf}
-use Rattle.records.specs.declared.fields.SenderFields.{SenderFields}
-use Rattle.records.specs.declared.fields.SenderFields.TheVariants.{Short as NoSender, Fields as SenderOf}
 use Rattle.records.specs.declared.record.Record.{Record}
 use Rattle.records.specs.declared.record.Record.TheVariants.{OneWay, BothWays, Landing, Sender}
 
 -- `HD`: sites n (2 bytes), stations k (1)
-abbrev pub head_fields : List ℕ → HeadFields
-head_fields bytes = cond (ltb (length bytes) 3) NoHead (Head (number16 bytes 0) (number8 bytes 2))
+abbrev pub head_in : List ℕ → Head
+head_in bytes = record { n = number16 bytes 0; k = number8 bytes 2 }
+
+abbrev pub head_fields : List ℕ → Option Head
+head_fields bytes = cond (ltb (length bytes) 3) None (Some (head_in bytes))
 
 -- `LK` and `BK`: from (2), to (2), price (4)
 abbrev pub link_in : List ℕ → Link
 link_in bytes = record { start = number16 bytes 0; end = number16 bytes 2; weight = number32 bytes 4 }
 
-abbrev pub link_fields : List ℕ → LinkFields
-link_fields bytes = cond (ltb (length bytes) 8) NoLink (LinkOf (link_in bytes).start (link_in bytes).end (link_in bytes).weight)
+abbrev pub link_fields : List ℕ → Option Link
+link_fields bytes = cond (ltb (length bytes) 8) None (Some (link_in bytes))
 
 -- `ST`: station (1), site (2)
 abbrev pub landing_in : List ℕ → LandingAt
 landing_in bytes = record { terminal = number8 bytes 0; node = number16 bytes 1 }
 
-abbrev pub landing_fields : List ℕ → LandingFields
-landing_fields bytes = cond (ltb (length bytes) 3) NoLanding (LandingOf (landing_in bytes).terminal (landing_in bytes).node)
+abbrev pub landing_fields : List ℕ → Option LandingAt
+landing_fields bytes = cond (ltb (length bytes) 3) None (Some (landing_in bytes))
 
 -- `SR`: site (2)
-abbrev pub sender_fields : List ℕ → SenderFields
-sender_fields bytes = cond (ltb (length bytes) 2) NoSender (SenderOf (number16 bytes 0))
+abbrev pub sender_fields : List ℕ → Option ℕ
+sender_fields bytes = cond (ltb (length bytes) 2) None (Some (number16 bytes 0))
 
 -- the bytes of the head, of a record and of the end
 abbrev pub head_bytes : ℕ → ℕ → List ℕ

@@ -6,12 +6,12 @@ use number_fields::{u16_at, u32_at};
 
 // What `HD` says: sites, stations.
 #[derive(Clone, Copy)]
-pub enum HeadFields {
-    Short,
-    Fields { n: u16, k: u8 },
+pub struct Head {
+    pub n: u16,
+    pub k: u8,
 }
 
-// What `LK` and `BK` say: from, to, price; and the same, where the bytes may be too short.
+// What `LK` and `BK` say: from, to, price.
 #[derive(Clone, Copy)]
 pub struct Link {
     pub start: u16,
@@ -19,43 +19,33 @@ pub struct Link {
     pub weight: u32,
 }
 
-#[derive(Clone, Copy)]
-pub enum LinkFields {
-    Short,
-    Fields { start: u16, end: u16, weight: u32 },
-}
-
-// What `ST` says: station, site; and the same, where the bytes may be too short.
+// What `ST` says: station, site.
 #[derive(Clone, Copy)]
 pub struct Landing {
     pub terminal: u8,
     pub node: u16,
 }
 
-#[derive(Clone, Copy)]
-pub enum LandingFields {
-    Short,
-    Fields { terminal: u8, node: u16 },
-}
+// How many bytes the fields of `HD`, of `LK` and `BK`, of `ST` and of `SR` take.
+const HEAD_BYTES: usize = 3;
 
-// What `SR` says, where the bytes may be too short: a site.
-#[derive(Clone, Copy)]
-pub enum SenderFields {
-    Short,
-    Fields { node: u16 },
-}
+const LINK_BYTES: usize = 8;
+
+const LANDING_BYTES: usize = 3;
+
+const SENDER_BYTES: usize = 2;
 
 // The fields of `HD`, where the bytes after the mark are long enough.
-pub fn head_fields(fields: &[u8]) -> HeadFields
+pub fn head_fields(fields: &[u8]) -> Option<Head>
     ensures { result ≡ head_fields fields.now }
 {
-    if fields.len() < 3 {
-        return HeadFields::Short;
+    if fields.len() < HEAD_BYTES {
+        return None;
     }
-    HeadFields::Fields {
+    Some(Head {
         n: u16_at(fields, 0),
         k: fields[2],
-    }
+    })
 }
 
 // The fields of `LK` and `BK`, from bytes that have them.
@@ -82,42 +72,31 @@ pub fn landing_in(fields: &[u8]) -> Landing
 }
 
 // The fields of `LK` and `BK`, where the bytes after the mark are long enough.
-pub fn link_fields(fields: &[u8]) -> LinkFields
+pub fn link_fields(fields: &[u8]) -> Option<Link>
     ensures { result ≡ link_fields fields.now }
 {
-    if fields.len() < 8 {
-        return LinkFields::Short;
+    if fields.len() < LINK_BYTES {
+        return None;
     }
-    let link = link_in(fields);
-    LinkFields::Fields {
-        start: link.start,
-        end: link.end,
-        weight: link.weight,
-    }
+    Some(link_in(fields))
 }
 
 // The fields of `ST`, where the bytes after the mark are long enough.
-pub fn landing_fields(fields: &[u8]) -> LandingFields
+pub fn landing_fields(fields: &[u8]) -> Option<Landing>
     ensures { result ≡ landing_fields fields.now }
 {
-    if fields.len() < 3 {
-        return LandingFields::Short;
+    if fields.len() < LANDING_BYTES {
+        return None;
     }
-    let landing = landing_in(fields);
-    LandingFields::Fields {
-        terminal: landing.terminal,
-        node: landing.node,
-    }
+    Some(landing_in(fields))
 }
 
-// The field of `SR`, where the bytes after the mark are long enough.
-pub fn sender_fields(fields: &[u8]) -> SenderFields
+// The field of `SR`, a site, where the bytes after the mark are long enough.
+pub fn sender_fields(fields: &[u8]) -> Option<u16>
     ensures { result ≡ sender_fields fields.now }
 {
-    if fields.len() < 2 {
-        return SenderFields::Short;
+    if fields.len() < SENDER_BYTES {
+        return None;
     }
-    SenderFields::Fields {
-        node: u16_at(fields, 0),
-    }
+    Some(u16_at(fields, 0))
 }

@@ -35,21 +35,9 @@ impl Record {
         ensures { result ≡ size self }
     {
         match self {
-            Record::OneWay {
-                start: _,
-                end: _,
-                weight: _,
-            } => LINK_SIZE,
-            Record::BothWays {
-                start: _,
-                end: _,
-                weight: _,
-            } => LINK_SIZE,
-            Record::Landing {
-                terminal: _,
-                node: _,
-            } => LANDING_SIZE,
-            Record::Sender { node: _ } => SENDER_SIZE,
+            Record::OneWay { .. } | Record::BothWays { .. } => LINK_SIZE,
+            Record::Landing { .. } => LANDING_SIZE,
+            Record::Sender { .. } => SENDER_SIZE,
         }
     }
 
@@ -58,21 +46,9 @@ impl Record {
         ensures { result ≡ length (arcs_of self) }
     {
         match self {
-            Record::OneWay {
-                start: _,
-                end: _,
-                weight: _,
-            } => 1,
-            Record::BothWays {
-                start: _,
-                end: _,
-                weight: _,
-            } => 2,
-            Record::Landing {
-                terminal: _,
-                node: _,
-            } => 0,
-            Record::Sender { node: _ } => 0,
+            Record::OneWay { .. } => 1,
+            Record::BothWays { .. } => 2,
+            Record::Landing { .. } | Record::Sender { .. } => 0,
         }
     }
 
@@ -82,18 +58,9 @@ impl Record {
         ensures { result.0 ≡ heard_by self }
     {
         match self {
-            Record::OneWay {
-                start: _,
-                end: _,
-                weight: _,
-            } => Subset::EMPTY,
-            Record::BothWays {
-                start: _,
-                end: _,
-                weight: _,
-            } => Subset::EMPTY,
-            Record::Landing { terminal, node: _ } => Subset::single(terminal),
-            Record::Sender { node: _ } => Subset::EMPTY,
+            Record::Landing { terminal, .. } => Subset::single(terminal),
+            Record::OneWay { .. } | Record::BothWays { .. } | Record::Sender { .. } =>
+                Subset::EMPTY,
         }
     }
 }

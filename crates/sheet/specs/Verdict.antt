@@ -1,7 +1,7 @@
 -- The verdict on a byte string: a good sheet with its sites, stations and records, or the first refusal of "What is sent back", 1 to 10.
 -- Reading goes record by record; the first faulty record decides, and within one the tests stand in document 01's order.
 -- Assumes nothing.
-use Rattle.std.specs.Prelude.{ℕ, zero, suc, ◌+◌, cond, not, List, [], ◌∷◌, ◌++◌, length, drop, ltb, eqb}
+use Rattle.std.specs.Prelude.{ℕ, zero, suc, ◌+◌, cond, not, List, [], ◌∷◌, ◌++◌, length, drop, ltb, eqb, Result, Ok, Err, Option, Some, None}
 use Rattle.limits.specs.Limits.{min_nodes, max_nodes, min_terminals, max_terminals}
 use Rattle.limits.specs.Marks.{mark_hd}
 use Rattle.answer.specs.declared.SheetFault.{SheetFault}
@@ -11,13 +11,9 @@ use Rattle.records.specs.Records.{head_fields, sizes, head_size, size}
 use Rattle.records.specs.Arcs.{arcs}
 use Rattle.records.specs.Landings.{heard}
 use Rattle.reading.specs.Steps.{found_in}
-use Rattle.records.specs.declared.fields.HeadFields.{HeadFields}
-use Rattle.records.specs.declared.fields.HeadFields.TheVariants.{Short as NoHead, Fields as Head}
+use Rattle.records.specs.declared.fields.Head.{Head}
 use Rattle.records.specs.declared.record.Record.{Record}
-use Rattle.record_tests.specs.declared.Found.TheVariants.{Item, End, Fault}
 use Rattle.reading.specs.declared.Reading.{Reading}
-use Rattle.sheet.specs.declared.opening.Opening.{Opening}
-use Rattle.sheet.specs.declared.opening.Opening.TheVariants.{Head as Opened, Fault as NotOpened}
 
 -- a good sheet with its sites, stations and records, or the first refusal
 pub data Verdict : Type 0 where
@@ -33,22 +29,22 @@ state_after n k records =
 
 -- ---- the head: mark, length, 3
 
-abbrev pub head_tests : ℕ → ℕ → Opening
+abbrev pub head_tests : ℕ → ℕ → Result Reading SheetFault
 head_tests n k =
-    cond (ltb n min_nodes) (NotOpened (BadHead 0))
-    (cond (ltb max_nodes n) (NotOpened (BadHead 0))
-    (cond (ltb k min_terminals) (NotOpened (BadHead 0))
-    (cond (ltb max_terminals k) (NotOpened (BadHead 0))
-    (Opened (state_after n k [])))))
+    cond (ltb n min_nodes) (Err (BadHead 0))
+    (cond (ltb max_nodes n) (Err (BadHead 0))
+    (cond (ltb k min_terminals) (Err (BadHead 0))
+    (cond (ltb max_terminals k) (Err (BadHead 0))
+    (Ok (state_after n k [])))))
 
-abbrev pub head_found : HeadFields → Opening
-head_found NoHead = NotOpened (ShortSheet 0)
-head_found (Head n k) = head_tests n k
+abbrev pub head_found : Option Head → Result Reading SheetFault
+head_found None = Err (ShortSheet 0)
+head_found (Some h) = head_tests h.n h.k
 
-abbrev pub opening_of : List ℕ → Opening
+abbrev pub opening_of : List ℕ → Result Reading SheetFault
 opening_of sheet =
-    cond (ltb (length sheet) 2) (NotOpened (ShortSheet 0))
-    (cond (not (eqb (number16 sheet 0) mark_hd)) (NotOpened (StrangeMark 0))
+    cond (ltb (length sheet) 2) (Err (ShortSheet 0))
+    (cond (not (eqb (number16 sheet 0) mark_hd)) (Err (StrangeMark 0))
     (head_found (head_fields (drop 2 sheet))))
 
 -- ---- record after record
@@ -58,17 +54,17 @@ unfoldable pub read_for : ℕ → ℕ → ℕ → List Record → List ℕ → V
 read_for zero n k records bytes = bad (ShortSheet (state_after n k records).offset)
 read_for (suc turns) n k records bytes =
     elim (found_in (state_after n k records) bytes) [
-      | Item x ↦ read_for turns n k (records ++ (x ∷ [])) (drop (size x) bytes)
-      | End ↦ good n k records
-      | Fault f ↦ bad f
+      | Ok (Some x) ↦ read_for turns n k (records ++ (x ∷ [])) (drop (size x) bytes)
+      | Ok None ↦ good n k records
+      | Err f ↦ bad f
     ]
 
 abbrev pub reading : ℕ → ℕ → List Record → List ℕ → Verdict
 reading n k records bytes = read_for (length bytes) n k records bytes
 
-abbrev pub after_head : List ℕ → Opening → Verdict
-after_head sheet (Opened r) = reading r.n r.k [] (drop head_size sheet)
-after_head sheet (NotOpened f) = bad f
+abbrev pub after_head : List ℕ → Result Reading SheetFault → Verdict
+after_head sheet (Ok r) = reading r.n r.k [] (drop head_size sheet)
+after_head sheet (Err f) = bad f
 
 -- the verdict on a byte string
 unfoldable pub verdict : List ℕ → Verdict

@@ -4,50 +4,30 @@ ghost use Rattle.sheet.specs.laws.Judged.{judged_of};
 ghost use Rattle.sheet.specs.laws.Underway.{Underway};
 ghost use Rattle.sheet.specs.Verdict.{verdict};
 
-use crate::opening::{Opening, begin};
+use crate::opening::begin;
 use answer::SheetFault;
-use reading::{Reading, Step};
-
-// A good sheet with its sites, stations and number of legs, or the first refusal.
-#[derive(Clone, Copy)]
-pub enum Judged {
-    Good { n: u16, k: u8, arcs: u16 },
-    Fault(SheetFault),
-}
+use limits::Counts;
+use reading::Reading;
 
 // Record after record, from a state that the reading has come to.
-fn read_on(sheet: &[u8], first: Reading) -> Judged
+fn read_on(sheet: &[u8], first: Reading) -> Result<Counts, SheetFault>
     requires { Underway sheet.now first }
     ensures { result ≡ judged_of (verdict sheet.now) }
 {
     let mut state = first;
-    loop {
-        let step = state.step(sheet);
-        match step {
-            Step::Next(next) => {
-                state = next;
-            }
-            Step::End => {
-                return Judged::Good {
-                    n: state.n,
-                    k: state.k,
-                    arcs: state.arcs,
-                };
-            }
-            Step::Fault(fault) => {
-                return Judged::Fault(fault);
-            }
-        }
+    while let Some(next) = state.step(sheet)? {
+        state = next;
     }
+    Ok(Counts {
+        n: state.n,
+        k: state.k,
+        arcs: state.arcs,
+    })
 }
 
-// The verdict on a byte string.
-pub fn judge(sheet: &[u8]) -> Judged
+// The verdict on a byte string: the counts of a good sheet, or the first refusal.
+pub fn judge(sheet: &[u8]) -> Result<Counts, SheetFault>
     ensures { result ≡ judged_of (verdict sheet.now) }
 {
-    let opening = begin(sheet);
-    match opening {
-        Opening::Head(first) => read_on(sheet, first),
-        Opening::Fault(fault) => Judged::Fault(fault),
-    }
+    read_on(sheet, begin(sheet)?)
 }

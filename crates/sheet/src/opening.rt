@@ -5,34 +5,27 @@ ghost use Rattle.sheet.specs.Verdict.{head_tests, opening_of};
 use answer::SheetFault;
 use number_fields::u16_at;
 use reading::Reading;
-use records::fields::{HeadFields, head_fields};
+use records::fields::{Head, head_fields};
 use records::record::HEAD_SIZE;
 use subset::Subset;
 
-// The start of the reading: the state after the head, or the refusal.
-#[derive(Clone, Copy)]
-pub enum Opening {
-    Head(Reading),
-    Fault(SheetFault),
-}
-
 // The tests of the head's numbers.
-fn head_state(n: u16, k: u8) -> Opening
+fn head_state(n: u16, k: u8) -> Result<Reading, SheetFault>
     ensures { result ≡ head_tests n k }
 {
     if n < limits::MIN_NODES {
-        return Opening::Fault(SheetFault::BadHead(0));
+        return Err(SheetFault::BadHead(0));
     }
     if limits::MAX_NODES < n {
-        return Opening::Fault(SheetFault::BadHead(0));
+        return Err(SheetFault::BadHead(0));
     }
     if k < limits::MIN_TERMINALS {
-        return Opening::Fault(SheetFault::BadHead(0));
+        return Err(SheetFault::BadHead(0));
     }
     if limits::MAX_TERMINALS < k {
-        return Opening::Fault(SheetFault::BadHead(0));
+        return Err(SheetFault::BadHead(0));
     }
-    Opening::Head(Reading {
+    Ok(Reading {
         offset: HEAD_SIZE,
         n,
         k,
@@ -42,19 +35,15 @@ fn head_state(n: u16, k: u8) -> Opening
 }
 
 // The head of a sheet.
-pub fn begin(sheet: &[u8]) -> Opening
+pub fn begin(sheet: &[u8]) -> Result<Reading, SheetFault>
     ensures { result ≡ opening_of sheet.now }
 {
     if sheet.len() < 2 {
-        return Opening::Fault(SheetFault::ShortSheet(0));
+        return Err(SheetFault::ShortSheet(0));
     }
-    let mark = u16_at(sheet, 0);
-    if mark != limits::MARK_HD {
-        return Opening::Fault(SheetFault::StrangeMark(0));
+    if u16_at(sheet, 0) != limits::MARK_HD {
+        return Err(SheetFault::StrangeMark(0));
     }
-    let read = head_fields(&sheet[2..]);
-    match read {
-        HeadFields::Short => Opening::Fault(SheetFault::ShortSheet(0)),
-        HeadFields::Fields { n, k } => head_state(n, k),
-    }
+    let Head { n, k } = head_fields(&sheet[2..]).ok_or(SheetFault::ShortSheet(0))?;
+    head_state(n, k)
 }

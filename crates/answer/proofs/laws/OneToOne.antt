@@ -1,6 +1,6 @@
 -- The stated values tell the answers apart: each answer can be found again from what is stated of it.
 -- Assumes nothing.
-use Rattle.std.specs.Prelude.{ℕ, ◌≡◌, cond, eqb}
+use Rattle.std.specs.Prelude.{ℕ, ◌≡◌, cond, eqb, Result, Ok, Err, Option, Some, None}
 use Rattle.std.proofs.Math.Path.{refl}
 use Rattle.std.proofs.Common.{sym, ap, ◌∙◌, arith}
 use Rattle.limits.specs.Refusals.{short_sheet, strange_mark, bad_head, no_such_site, no_such_station, loop, bad_price, too_many_legs, after_the_end, unheard, short_tables, no_plan, short_buffer, cut_plan, bad_plan, unknown_number, no_tree, station_missed, false_total, not_a_sender}
@@ -10,13 +10,9 @@ use Rattle.answer.specs.declared.SearchFault.TheVariants.{NoPlan}
 use Rattle.answer.specs.declared.PlanFault.TheVariants.{CutPlan, BadPlan, UnknownNumber, NoTree, StationMissed, FalseTotal, NotASender}
 use Rattle.answer.specs.declared.Refusal.{Refusal}
 use Rattle.answer.specs.declared.Refusal.TheVariants.{Sheet, Tables, Search, PlanFile}
-use Rattle.answer.specs.declared.Answer.{Answer}
-use Rattle.answer.specs.declared.Answer.TheVariants.{Plan, Refused}
-use Rattle.answer.specs.declared.Enquiry.{Enquiry}
-use Rattle.answer.specs.declared.Enquiry.TheVariants.{Cell, Sender, NoSender, Refused as RefusedEnquiry}
-use Rattle.answer.specs.declared.Sharing.{Sharing}
-use Rattle.answer.specs.declared.Sharing.TheVariants.{Shared, Refused as RefusedSharing}
-use Rattle.answer.specs.Stated.{Stated, plan, shared, cell, sender, no_sender, refused, family_of, stated_refusal, stated, stated_enquiry, stated_sharing}
+use Rattle.answer.specs.declared.Plan.{Plan}
+use Rattle.answer.specs.declared.Shared.{Shared}
+use Rattle.answer.specs.Stated.{Stated, plan, shared, cell, sender, no_sender, refused, family_of, stated_refusal, stated, stated_cell, stated_sender, stated_sharing}
 
 -- the refusal with a number and a place
 abbrev refusal_at : ℕ → ℕ → Refusal
@@ -111,48 +107,82 @@ unfolding find_refusal
 refusal_one_to_one a b same =
     sym (find_refusal_lem _ _ _ _ _ (λ r. r) a) ∙ ap find_refusal same ∙ find_refusal_lem _ _ _ _ _ (λ r. r) b
 
-find_answer : Stated → Answer
-find_answer = find Plan (λ _ _ _ _. Refused any_refusal) (λ _. Refused any_refusal) (λ _. Refused any_refusal) (Refused any_refusal) Refused
+-- any refusal, where no refusal is stated
+refused_any : {A : Type 0} → Result A Refusal
+refused_any = Err any_refusal
 
-answer_found : (a : Answer) → find_answer (stated a) ≡ a
+find_answer : Stated → Result Plan Refusal
+find_answer =
+    find (λ root total arcs. Ok (record { root = root; total = total; arcs = arcs })) (λ _ _ _ _. refused_any) (λ _. refused_any) (λ _. refused_any) refused_any Err
+
+answer_found : (a : Result Plan Refusal) → find_answer (stated a) ≡ a
 unfolding find_answer find
-answer_found (Plan root total arcs) = refl
-answer_found (Refused refusal) = find_refusal_lem _ _ _ _ _ Refused refusal
+answer_found (Ok p) = refl
+answer_found (Err refusal) = find_refusal_lem _ _ _ _ _ Err refusal
 
 -- two answers of the engine or the plan reader of which the same is stated are one answer
-pub answer_one_to_one : (a b : Answer) → stated a ≡ stated b → a ≡ b
+pub answer_one_to_one : (a b : Result Plan Refusal) → stated a ≡ stated b → a ≡ b
 answer_one_to_one a b same = sym (answer_found a) ∙ ap find_answer same ∙ answer_found b
 
-find_enquiry : Stated → Enquiry
-find_enquiry = find (λ _ _ _. NoSender) (λ _ _ _ _. NoSender) Cell Sender NoSender RefusedEnquiry
+find_cell : Stated → Result ℕ Refusal
+find_cell = find (λ _ _ _. refused_any) (λ _ _ _ _. refused_any) Ok (λ _. refused_any) refused_any Err
 
-enquiry_found : (a : Enquiry) → find_enquiry (stated_enquiry a) ≡ a
-unfolding find_enquiry find
-enquiry_found (Cell cost) = refl
-enquiry_found (Sender node) = refl
-enquiry_found NoSender = refl
-enquiry_found (RefusedEnquiry refusal) = find_refusal_lem _ _ _ _ _ RefusedEnquiry refusal
+cell_found : (a : Result ℕ Refusal) → find_cell (stated_cell a) ≡ a
+unfolding find_cell find
+cell_found (Ok cost) = refl
+cell_found (Err refusal) = find_refusal_lem _ _ _ _ _ Err refusal
 
--- two answers of the enquirer of which the same is stated are one answer
-pub enquiry_one_to_one : (a b : Enquiry) → stated_enquiry a ≡ stated_enquiry b → a ≡ b
-enquiry_one_to_one a b same = sym (enquiry_found a) ∙ ap find_enquiry same ∙ enquiry_found b
+find_sender : Stated → Result (Option ℕ) Refusal
+find_sender = find (λ _ _ _. refused_any) (λ _ _ _ _. refused_any) (λ _. refused_any) (λ node. Ok (Some node)) (Ok None) Err
 
-find_sharing : Stated → Sharing
+sender_found : (a : Result (Option ℕ) Refusal) → find_sender (stated_sender a) ≡ a
+unfolding find_sender find
+sender_found (Ok (Some node)) = refl
+sender_found (Ok None) = refl
+sender_found (Err refusal) = find_refusal_lem _ _ _ _ _ Err refusal
+
+-- two answers of the enquirer to one question of which the same is stated are one answer
+pub cell_one_to_one : (a b : Result ℕ Refusal) → stated_cell a ≡ stated_cell b → a ≡ b
+cell_one_to_one a b same = sym (cell_found a) ∙ ap find_cell same ∙ cell_found b
+
+pub sender_one_to_one : (a b : Result (Option ℕ) Refusal) → stated_sender a ≡ stated_sender b → a ≡ b
+sender_one_to_one a b same = sym (sender_found a) ∙ ap find_sender same ∙ sender_found b
+
+-- a number that tells a cell, a best sender or none, and a refusal apart
+kind : Stated → ℕ
+kind = find (λ _ _ _. 0) (λ _ _ _ _. 0) (λ _. 1) (λ _. 2) 2 (λ _. 3)
+
+-- where the same is stated of answers to its two questions, both are one refusal
+pub enquiry_one_to_one : (a : Result ℕ Refusal) (b : Result (Option ℕ) Refusal) → stated_cell a ≡ stated_sender b
+    → (refusal : Refusal) × (a ≡ Err refusal) × (b ≡ Err refusal)
+unfolding find kind
+enquiry_one_to_one (Ok cost) (Ok (Some node)) same = let e : ◌≡◌ {A = ℕ} 1 2 = ap kind same in let bad : ⊥ = omega arith in elim bad [ ]
+enquiry_one_to_one (Ok cost) (Ok None) same = let e : ◌≡◌ {A = ℕ} 1 2 = ap kind same in let bad : ⊥ = omega arith in elim bad [ ]
+enquiry_one_to_one (Ok cost) (Err refusal) same =
+    let e : ◌≡◌ {A = ℕ} 1 3 = ap kind same ∙ find_refusal_lem _ _ _ _ _ (λ _. 3) refusal in let bad : ⊥ = omega arith in elim bad [ ]
+enquiry_one_to_one (Err refusal) (Ok (Some node)) same =
+    let e : ◌≡◌ {A = ℕ} 3 2 = sym (find_refusal_lem _ _ _ _ _ (λ _. 3) refusal) ∙ ap kind same in let bad : ⊥ = omega arith in elim bad [ ]
+enquiry_one_to_one (Err refusal) (Ok None) same =
+    let e : ◌≡◌ {A = ℕ} 3 2 = sym (find_refusal_lem _ _ _ _ _ (λ _. 3) refusal) ∙ ap kind same in let bad : ⊥ = omega arith in elim bad [ ]
+enquiry_one_to_one (Err a) (Err b) same = (a, refl, ap Err (sym (refusal_one_to_one a b same)))
+
+find_sharing : Stated → Result Shared Refusal
 find_sharing =
-    find (λ _ _ _. RefusedSharing any_refusal) Shared (λ _. RefusedSharing any_refusal) (λ _. RefusedSharing any_refusal) (RefusedSharing any_refusal) RefusedSharing
+    find (λ _ _ _. refused_any) (λ root total arcs unassigned. Ok (record { plan = record { root = root; total = total; arcs = arcs }; unassigned = unassigned })) (λ _. refused_any) (λ _. refused_any) refused_any Err
 
-sharing_found : (a : Sharing) → find_sharing (stated_sharing a) ≡ a
+sharing_found : (a : Result Shared Refusal) → find_sharing (stated_sharing a) ≡ a
 unfolding find_sharing find
-sharing_found (Shared root total arcs unassigned) = refl
-sharing_found (RefusedSharing refusal) = find_refusal_lem _ _ _ _ _ RefusedSharing refusal
+sharing_found (Ok s) = refl
+sharing_found (Err refusal) = find_refusal_lem _ _ _ _ _ Err refusal
 
 -- two answers with shares of which the same is stated are one answer
-pub sharing_one_to_one : (a b : Sharing) → stated_sharing a ≡ stated_sharing b → a ≡ b
+pub sharing_one_to_one : (a b : Result Shared Refusal) → stated_sharing a ≡ stated_sharing b → a ≡ b
 sharing_one_to_one a b same = sym (sharing_found a) ∙ ap find_sharing same ∙ sharing_found b
 
 -- what is stated of a refusal is not what is stated of a plan
 pub refusal_no_plan : (refusal : Refusal) (root total arcs : ℕ) → stated_refusal refusal ≡ plan root total arcs → ⊥
 refusal_no_plan refusal root total arcs same =
-    let q : Refused refusal ≡ Plan root total arcs = answer_one_to_one (Refused refusal) (Plan root total arcs) same in
+    let p : Plan = record { root = root; total = total; arcs = arcs } in
+    let q : ◌≡◌ {A = Result Plan Refusal} (Err refusal) (Ok p) = answer_one_to_one (Err refusal) (Ok p) same in
     let z : ◌≡◌ {A = ℕ} 0 1 = cc q in
     omega arith

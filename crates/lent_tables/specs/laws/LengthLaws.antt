@@ -1,22 +1,20 @@
 -- The tests of the lengths pass exactly where the tables are long enough; and the test of the cells, as code makes it.
 -- Assumes nothing.
-use Rattle.std.specs.Prelude.{ℕ, ◌+◌, ◌*◌, ◌^◌, ◌≤◌, ◌<◌, ◌≡◌, refl, Bool, true, ◌&&◌, leb, length}
+use Rattle.std.specs.Prelude.{ℕ, ◌+◌, ◌*◌, ◌^◌, ◌≤◌, ◌<◌, ◌≡◌, refl, Bool, true, ◌&&◌, leb, length, Option, Some, None}
 use Rattle.std.proofs.Common.{sym, ap, ◌∙◌, mul-le-mul, arith, pow_mono, leb-true, le-leb}
 use Rattle.limits.specs.Limits.{max_terminals, max_subsets}
 use Rattle.lists.specs.Tests.{both_true}
 use Rattle.lent_tables.specs.SheetTables.{SheetTables}
 use Rattle.lent_tables.specs.Lengths.{Enough, FurtherLong, AllLong, is_enough, further_pass, are_long}
-use Rattle.lent_tables.specs.declared.TableLength.{TableLength}
-use Rattle.lent_tables.specs.declared.TableLength.TheVariants.{Entries, NotNeeded}
 use Rattle.lent_tables.specs.declared.FurtherLengths.{FurtherLengths}
 
-enough_true : (need : ℕ) (table : TableLength) → is_enough need table ≡ true → Enough need table
-enough_true need (Entries count) e = leb-true need count e
-enough_true need NotNeeded e = tt
+enough_true : (need : ℕ) (table : Option ℕ) → is_enough need table ≡ true → Enough need table
+enough_true need (Some count) e = leb-true need count e
+enough_true need None e = tt
 
-true_enough : (need : ℕ) (table : TableLength) → Enough need table → is_enough need table ≡ true
-true_enough need (Entries count) h = le-leb need count h
-true_enough need NotNeeded h = refl
+true_enough : (need : ℕ) (table : Option ℕ) → Enough need table → is_enough need table ≡ true
+true_enough need (Some count) h = le-leb need count h
+true_enough need None h = refl
 
 module _ (n k arc_count : ℕ) (f : FurtherLengths) where
   further_test_long : further_pass n k arc_count f ≡ true → FurtherLong n k arc_count f
@@ -78,6 +76,6 @@ cells_fit n k size few small is =
     omega (arith, mul-le-mul low sets)
 
 -- the test of the cells, as code makes it
-pub cells_test : (n k size : ℕ) (table : TableLength) (passes b : Bool) → size ≡ 2 ^ k → passes ≡ is_enough (n * size) table → passes ≡ b
+pub cells_test : (n k size : ℕ) (table : Option ℕ) (passes b : Bool) → size ≡ 2 ^ k → passes ≡ is_enough (n * size) table → passes ≡ b
     → is_enough (n * 2 ^ k) table ≡ b
 cells_test n k size table passes b is e t = ap (λ (x : ℕ). is_enough (n * x) table) (sym is) ∙ sym e ∙ t

@@ -1,7 +1,9 @@
 -- From the judging of a sheet to its opening, as code goes: what is returned, and the tables afterwards, in each case.
 -- Assumes nothing.
-use Rattle.std.specs.Prelude.{ℕ, ◌≤◌, ◌≡◌, true, false, List, length}
+use Rattle.std.specs.Prelude.{ℕ, ◌≤◌, ◌≡◌, true, false, List, length, Ok, Err}
 use Rattle.std.proofs.Common.{sym, ap, ap₂, ◌∙◌, subst, true≢false, arith}
+use Rattle.limits.specs.Counts.{counts}
+use Rattle.limits.specs.declared.Counts.{Counts}
 use Rattle.limits.specs.Limits.{max_terminals}
 use Rattle.limits.specs.Refusals.{short_tables}
 use Rattle.answer.specs.Stated.{refused, of_tables, stated_sheet}
@@ -12,7 +14,6 @@ use Rattle.records.specs.Arcs.{arcs}
 use Rattle.sheet.specs.laws.Good.{IsSheet, good_is_sheet}
 use Rattle.sheet.specs.laws.Judged.{judged_of}
 use Rattle.sheet.specs.Verdict.{Verdict, good, bad, verdict}
-use Rattle.sheet.specs.declared.judge.Judged.TheVariants.{Good, Fault}
 use Rattle.loader.specs.LoadedBy.{loaded_by}
 use Rattle.loader.specs.laws.Loading.{Loadable}
 use Rattle.lent_tables.specs.Lengths.{AllLong, are_long}
@@ -25,20 +26,22 @@ use Rattle.lent_tables.specs.declared.FurtherLengths.{FurtherLengths}
 -- ---- the judging
 
 -- a sheet that is judged good, or not
-judged_good : (v : Verdict) (n k m : ℕ) → Good n k m ≡ judged_of v → GoodSheet v n k m
-judged_good (good n' k' records) n k m e = record { records = records; good_sheet = cc; count = cc }
+judged_good : (v : Verdict) (n k m : ℕ) → Ok (counts n k m) ≡ judged_of v → GoodSheet v n k m
+judged_good (good n' k' records) n k m e =
+    let same : counts n' k' (length (arcs records)) ≡ counts n k m = cc e in
+    record { records = records; good_sheet = ap (λ (c : Counts). good c.n c.k records) same; count = ap (λ (c : Counts). c.arcs) same }
 judged_good (bad f) n k m e = let z : ◌≡◌ {A = ℕ} 0 1 = cc in absurd (omega arith)
 
-judged_bad : (v : Verdict) (f : SheetFault) → Fault f ≡ judged_of v → v ≡ bad f
+judged_bad : (v : Verdict) (f : SheetFault) → Err f ≡ judged_of v → v ≡ bad f
 judged_bad (good n k records) f e = let z : ◌≡◌ {A = ℕ} 0 1 = cc in absurd (omega arith)
 judged_bad (bad g) f e = let same : f ≡ g = cc in ap bad (sym same)
 
 module _ (s : List ℕ) (t : SheetTables) (f : FurtherLengths) where
   -- 1 to 10
-  pub sheet_refused : (fault : SheetFault) → Fault fault ≡ judged_of (verdict s) → outcome (refusal (stated_sheet fault)) t ≡ loading_of s t f
+  pub sheet_refused : (fault : SheetFault) → Err fault ≡ judged_of (verdict s) → outcome (refusal (stated_sheet fault)) t ≡ loading_of s t f
   sheet_refused fault e = sym (ap (loaded_as t) (opening_bad s t f fault (judged_bad (verdict s) fault e)))
 
-  module _ (n k m : ℕ) (e : Good n k m ≡ judged_of (verdict s)) where
+  module _ (n k m : ℕ) (e : Ok (counts n k m) ≡ judged_of (verdict s)) where
     judged : GoodSheet (verdict s) n k m
     judged = judged_good (verdict s) n k m e
 

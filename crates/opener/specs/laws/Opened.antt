@@ -1,6 +1,6 @@
 -- What is known where a sheet is opened or refused: by what the opener returned, and the tables afterwards.
 -- Assumes nothing.
-use Rattle.std.specs.Prelude.{ℕ, ◌≡◌, refl, List}
+use Rattle.std.specs.Prelude.{ℕ, ◌≡◌, refl, List, Result, Ok, Err}
 use Rattle.std.proofs.Common.{sym, ap, ◌∙◌, subst}
 use Rattle.answer.specs.Stated.{stated_refusal}
 use Rattle.answer.specs.declared.Refusal.{Refusal}
@@ -13,8 +13,8 @@ use Rattle.opener.specs.Opening.{SheetOpening, refuses, opens, sheet_opening, Re
 use Rattle.opener.specs.laws.GoodSheet.{GoodSheet}
 use Rattle.opener.specs.laws.Cases.{by_opening_cases}
 use Rattle.lent_tables.specs.declared.FurtherLengths.{FurtherLengths}
-use Rattle.opener.specs.declared.Loaded.{Loaded}
-use Rattle.opener.specs.declared.Loaded.TheVariants.{Sheet, Refused}
+use Rattle.limits.specs.declared.Counts.{Counts}
+use Rattle.limits.specs.Counts.{counts}
 
 -- a sheet that is opened, with n sites, k stations and m legs: it is good, all needed tables are long enough, and the tables hold it
 pub record OpenedSheet (s : List ℕ) (before after : SheetTables) (f : FurtherLengths) (n k m : ℕ) : Type 0 where
@@ -69,12 +69,12 @@ module _ (s : List ℕ) (before after : SheetTables) (f : FurtherLengths) where
         ).to refl e
 
   -- as code has it: by the result of a call with lengths that are these
-  module _ (result : Loaded) (lengths : FurtherLengths) (same : lengths ≡ f) (e : outcome (returned result) after ≡ loading_of s before lengths) where
-    gave : (r : Loaded) → result ≡ r → Known (returned r)
-    gave r is = known (returned r) (ap (λ (x : Loaded). outcome (returned x) after) (sym is) ∙ e ∙ ap (loading_of s before) same)
+  module _ (result : Result Counts Refusal) (lengths : FurtherLengths) (same : lengths ≡ f) (e : outcome (returned result) after ≡ loading_of s before lengths) where
+    gave : (r : Result Counts Refusal) → result ≡ r → Known (returned r)
+    gave r is = known (returned r) (ap (λ (x : Result Counts Refusal). outcome (returned x) after) (sym is) ∙ e ∙ ap (loading_of s before) same)
 
-    pub opened_sheet : (n k m : ℕ) → result ≡ Sheet n k m → OpenedSheet s before after f n k m
-    opened_sheet n k m is = gave (Sheet n k m) is
+    pub opened_sheet : (n k m : ℕ) → result ≡ Ok (counts n k m) → OpenedSheet s before after f n k m
+    opened_sheet n k m is = gave (Ok (counts n k m)) is
 
-    pub opened_refusal : (r : Refusal) → result ≡ Refused r → (sheet_opening s before f ≡ refuses (stated_refusal r)) × (after ≡ before)
-    opened_refusal r is = gave (Refused r) is
+    pub opened_refusal : (r : Refusal) → result ≡ Err r → (sheet_opening s before f ≡ refuses (stated_refusal r)) × (after ≡ before)
+    opened_refusal r is = gave (Err r) is

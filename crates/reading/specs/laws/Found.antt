@@ -1,6 +1,6 @@
 -- What is known of a reading state and of the bytes that are left where a record or the end is found.
 -- Assumes nothing.
-use Rattle.std.specs.Prelude.{ℕ, ◌≡◌, List, length, ltb, eqb}
+use Rattle.std.specs.Prelude.{ℕ, ◌≡◌, Ok, Some, None, List, length, ltb, eqb}
 use Rattle.std.proofs.Math.Path.{subst}
 use Rattle.std.proofs.Common.{ltb-false, eqb-true}
 use Rattle.limits.specs.Marks.{mark_lk, mark_bk, mark_st, mark_sr, mark_ed}
@@ -8,7 +8,6 @@ use Rattle.number_fields.specs.Fields.{number16}
 use Rattle.record_tests.proofs.laws.Passed.{Passed, ReadFrom, EndOk, Known, cond_both, fault_known, test, one_way_known, both_ways_known, landing_known, sender_known, mark_end_known}
 use Rattle.reading.specs.Steps.{found_in}
 use Rattle.records.specs.declared.record.Record.{Record}
-use Rattle.record_tests.specs.declared.Found.TheVariants.{Item, End}
 use Rattle.reading.specs.declared.Reading.{Reading}
 
 module _ (r : Reading) (bytes : List ℕ) where
@@ -31,15 +30,15 @@ module _ (r : Reading) (bytes : List ℕ) where
       fault_known at n k legs heard bytes _))))))
 
   -- the record passes its tests
-  pub found_item : (x : Record) → found_in r bytes ≡ Item x → Passed r.n r.k r.arcs bytes x
+  pub found_item : (x : Record) → found_in r bytes ≡ Ok (Some x) → Passed r.n r.k r.arcs bytes x
   unfolding Known
   found_item x e = (subst (Known r.n r.k r.arcs r.heard.0 bytes) e found_known).0
 
   -- and the bytes that it was read from
-  pub found_read : (x : Record) → found_in r bytes ≡ Item x → ReadFrom bytes x
+  pub found_read : (x : Record) → found_in r bytes ≡ Ok (Some x) → ReadFrom bytes x
   unfolding Known
   found_read x e = (subst (Known r.n r.k r.arcs r.heard.0 bytes) e found_known).1
 
-  pub found_end : found_in r bytes ≡ End → EndOk r.k r.heard.0 bytes
+  pub found_end : found_in r bytes ≡ Ok None → EndOk r.k r.heard.0 bytes
   unfolding Known
   found_end e = subst (Known r.n r.k r.arcs r.heard.0 bytes) e found_known

@@ -1,6 +1,6 @@
 -- What is known of a record that is found, and of the end: which tests they pass, and which bytes they were read from.
 -- Assumes nothing.
-use Rattle.std.specs.Prelude.{ℕ, ◌+◌, ◌≤◌, ◌≡◌, refl, Bool, true, false, cond, List, length, drop, ltb, leb, eqb}
+use Rattle.std.specs.Prelude.{ℕ, ◌+◌, ◌≤◌, ◌≡◌, refl, Bool, true, false, cond, Ok, Err, Option, Some, None, List, length, drop, ltb, leb, eqb}
 use Rattle.std.proofs.Common.{arith, length-drop, ltb-false, leb-false, eqb-true}
 use Rattle.std.proofs.lemmas.Bool.{eqb-false}
 use Rattle.limits.specs.Limits.{max_arcs, min_weight, max_weight}
@@ -11,15 +11,11 @@ use Rattle.subset.specs.Sets.{full}
 use Rattle.number_fields.specs.Fields.{number8, number16, number32}
 use Rattle.records.specs.Records.{LinkOk, RecordOk, link_fields, landing_fields, sender_fields, size}
 use Rattle.records.specs.Arcs.{arcs_of}
-use Rattle.record_tests.specs.Tests.{link_tests, one_way_found, both_ways_found, landing_found, sender_found, end_found}
-use Rattle.records.specs.declared.fields.LinkFields.{LinkFields}
-use Rattle.records.specs.declared.fields.LinkFields.TheVariants.{Short as NoLink, Fields as Link}
-use Rattle.records.specs.declared.fields.LandingFields.{LandingFields}
-use Rattle.records.specs.declared.fields.SenderFields.{SenderFields}
+use Rattle.record_tests.specs.Tests.{Found, link_tests, one_way_found, both_ways_found, landing_found, sender_found, end_found}
+use Rattle.records.specs.declared.fields.Link.{Link}
+use Rattle.records.specs.declared.fields.Landing.{Landing as LandingAt}
 use Rattle.records.specs.declared.record.Record.{Record}
 use Rattle.records.specs.declared.record.Record.TheVariants.{OneWay, BothWays, Landing, Sender}
-use Rattle.record_tests.specs.declared.Found.{Found}
-use Rattle.record_tests.specs.declared.Found.TheVariants.{Item, End, Fault}
 
 -- ---- the tests of a record
 
@@ -74,29 +70,29 @@ enough bytes m e h = omega (arith, ltb-false (length (drop 2 bytes)) m e, length
 
 -- what is known where this is found
 unfoldable pub Known : (n k legs heard : ℕ) → List ℕ → Found → Type 0
-Known n k legs heard bytes (Item x) = Passed n k legs bytes x × ReadFrom bytes x
-Known n k legs heard bytes End = EndOk k heard bytes
-Known n k legs heard bytes (Fault f) = Unit {0}
+Known n k legs heard bytes (Ok (Some x)) = Passed n k legs bytes x × ReadFrom bytes x
+Known n k legs heard bytes (Ok None) = EndOk k heard bytes
+Known n k legs heard bytes (Err f) = Unit {0}
 
 module _ (at n k legs heard : ℕ) (bytes : List ℕ) where
-  pub fault_known : (f : SheetFault) → Known n k legs heard bytes (Fault f)
+  pub fault_known : (f : SheetFault) → Known n k legs heard bytes (Err f)
   unfolding Known
   fault_known f = tt
 
-  end_known : EndOk k heard bytes → Known n k legs heard bytes End
+  end_known : EndOk k heard bytes → Known n k legs heard bytes (Ok None)
   unfolding Known
   end_known e = e
 
-  item_known : (x : Record) → Passed n k legs bytes x → ReadFrom bytes x → Known n k legs heard bytes (Item x)
+  item_known : (x : Record) → Passed n k legs bytes x → ReadFrom bytes x → Known n k legs heard bytes (Ok (Some x))
   unfolding Known
   item_known x p q = (p, q)
 
   -- a test whose failure is a refusal
-  pub test : (b : Bool) (f : SheetFault) (y : Found) → (b ≡ false → Known n k legs heard bytes y) → Known n k legs heard bytes (cond b (Fault f) y)
-  test b f y g = cond_both (Known n k legs heard bytes) b (Fault f) y (λ _. fault_known f) g
+  pub test : (b : Bool) (f : SheetFault) (y : Found) → (b ≡ false → Known n k legs heard bytes y) → Known n k legs heard bytes (cond b (Err f) y)
+  test b f y g = cond_both (Known n k legs heard bytes) b (Err f) y (λ _. fault_known f) g
 
   link_known : (start end weight : ℕ) (x : Record)
-      → (LinkOk n start end weight → legs + length (arcs_of x) ≤ max_arcs → Known n k legs heard bytes (Item x))
+      → (LinkOk n start end weight → legs + length (arcs_of x) ≤ max_arcs → Known n k legs heard bytes (Ok (Some x)))
       → Known n k legs heard bytes (link_tests at n legs start end weight x)
   link_known start end weight x h =
       test (leb n start) _ _ (λ t1.
@@ -116,28 +112,27 @@ module _ (at n k legs heard : ℕ) (bytes : List ℕ) where
       (ltb-false max_arcs (legs + length (arcs_of x)) t6)))))))
 
   -- the fields of a link, whatever is made of them
-  fields_known : (found : LinkFields → Found) (mark : ℕ) → Known n k legs heard bytes (found NoLink)
-      → ((start end weight : ℕ) → 10 ≤ length bytes → LinkRead bytes mark start end weight
-      → Known n k legs heard bytes (found (Link start end weight)))
+  fields_known : (found : Option Link → Found) (mark : ℕ) → Known n k legs heard bytes (found None)
+      → ((l : Link) → 10 ≤ length bytes → LinkRead bytes mark l.start l.end l.weight → Known n k legs heard bytes (found (Some l)))
       → 2 ≤ length bytes → number16 bytes 0 ≡ mark → Known n k legs heard bytes (found (link_fields (drop 2 bytes)))
   fields_known found mark none some two mark_is =
-      cond_both (λ (f : LinkFields). Known n k legs heard bytes (found f)) (ltb (length (drop 2 bytes)) 8) _ _
+      cond_both (λ (f : Option Link). Known n k legs heard bytes (found f)) (ltb (length (drop 2 bytes)) 8) _ _
       (λ _. none)
-      (λ e. some _ _ _ (enough bytes 8 e two) (record { mark_is = mark_is; start_is = refl; end_is = refl; weight_is = refl }))
+      (λ e. some _ (enough bytes 8 e two) (record { mark_is = mark_is; start_is = refl; end_is = refl; weight_is = refl }))
 
   pub one_way_known : 2 ≤ length bytes → number16 bytes 0 ≡ mark_lk
       → Known n k legs heard bytes (one_way_found at n legs (link_fields (drop 2 bytes)))
   one_way_known =
-      fields_known (one_way_found at n legs) mark_lk (fault_known _) (λ start end weight whole read.
-      let x : Record = OneWay start end weight in
-      link_known start end weight x (λ ok few. item_known x (record { ok = ok; few = λ _. few; whole = whole }) read))
+      fields_known (one_way_found at n legs) mark_lk (fault_known _) (λ l whole read.
+      let x : Record = OneWay l.start l.end l.weight in
+      link_known l.start l.end l.weight x (λ ok few. item_known x (record { ok = ok; few = λ _. few; whole = whole }) read))
 
   pub both_ways_known : 2 ≤ length bytes → number16 bytes 0 ≡ mark_bk
       → Known n k legs heard bytes (both_ways_found at n legs (link_fields (drop 2 bytes)))
   both_ways_known =
-      fields_known (both_ways_found at n legs) mark_bk (fault_known _) (λ start end weight whole read.
-      let x : Record = BothWays start end weight in
-      link_known start end weight x (λ ok few. item_known x (record { ok = ok; few = λ _. few; whole = whole }) read))
+      fields_known (both_ways_found at n legs) mark_bk (fault_known _) (λ l whole read.
+      let x : Record = BothWays l.start l.end l.weight in
+      link_known l.start l.end l.weight x (λ ok few. item_known x (record { ok = ok; few = λ _. few; whole = whole }) read))
 
   pub landing_known : 2 ≤ length bytes → number16 bytes 0 ≡ mark_st
       → Known n k legs heard bytes (landing_found at n k (landing_fields (drop 2 bytes)))
@@ -145,7 +140,7 @@ module _ (at n k legs heard : ℕ) (bytes : List ℕ) where
       let terminal = number8 (drop 2 bytes) 0 in
       let node = number16 (drop 2 bytes) 1 in
       let x : Record = Landing terminal node in
-      cond_both (λ (f : LandingFields). Known n k legs heard bytes (landing_found at n k f)) (ltb (length (drop 2 bytes)) 3) _ _
+      cond_both (λ (f : Option LandingAt). Known n k legs heard bytes (landing_found at n k f)) (ltb (length (drop 2 bytes)) 3) _ _
       (λ _. fault_known _)
       (λ e.
       test (leb k terminal) _ _ (λ t1.
@@ -159,7 +154,7 @@ module _ (at n k legs heard : ℕ) (bytes : List ℕ) where
   sender_known two mark_is =
       let node = number16 (drop 2 bytes) 0 in
       let x : Record = Sender node in
-      cond_both (λ (f : SenderFields). Known n k legs heard bytes (sender_found at n f)) (ltb (length (drop 2 bytes)) 2) _ _
+      cond_both (λ (f : Option ℕ). Known n k legs heard bytes (sender_found at n f)) (ltb (length (drop 2 bytes)) 2) _ _
       (λ _. fault_known _)
       (λ e.
       test (leb n node) _ _ (λ t.

@@ -1,7 +1,7 @@
 -- The law beside the verdict: a byte string is a good sheet exactly where it is the bytes of a head, a list of records and `ED`, the head
 -- in range, each record passing its own tests, with at most 8,192 legs and a landing for every station. That head and that list are unique.
 -- Assumes nothing.
-use Rattle.std.specs.Prelude.{ℕ, ◌+◌, ◌≤◌, ◌<◌, ◌≡◌, refl, List, [], ◌∷◌, ◌++◌, length, drop}
+use Rattle.std.specs.Prelude.{ℕ, ◌+◌, ◌≤◌, ◌<◌, ◌≡◌, refl, List, [], ◌∷◌, ◌++◌, length, drop, Result, Ok, Err, Some, None}
 use Rattle.std.proofs.Common.{sym, ap, ◌∙◌, subst, subst₂, append_assoc, append-nil, arith, length-append}
 use Rattle.limits.specs.Limits.{min_nodes, max_nodes, min_terminals, max_terminals, max_arcs}
 use Rattle.lists.specs.Every.{Every, every_drop}
@@ -19,9 +19,8 @@ use Rattle.sheet.specs.Verdict.{good, state_after, opening_of, reading, after_he
 use Rattle.sheet.specs.laws.Opened.{opening_opened}
 use Rattle.sheet.specs.laws.Reads.{reading_item, reading_end, reading_extends, good_reading}
 use Rattle.records.specs.declared.record.Record.{Record}
-use Rattle.sheet.specs.declared.opening.Opening.{Opening}
-use Rattle.sheet.specs.declared.opening.Opening.TheVariants.{Head as Opened, Fault as NotOpened}
-use Rattle.record_tests.specs.declared.Found.TheVariants.{Item, End}
+use Rattle.reading.specs.declared.Reading.{Reading}
+use Rattle.answer.specs.declared.SheetFault.{SheetFault}
 
 -- the byte string is that sheet
 pub record IsSheet (s : List ℕ) (n k : ℕ) (records : List Record) : Type 0 where
@@ -51,7 +50,7 @@ record Left (n k : ℕ) (all records : List Record) (bytes : List ℕ) : Type 0 
   heard : heard all ≡ full k
 
 module _ (n k n' k' : ℕ) (all : List Record) where
-  left_end : (records : List Record) (bytes : List ℕ) → found_in (state_after n k records) bytes ≡ End → good n k records ≡ good n' k' all
+  left_end : (records : List Record) (bytes : List ℕ) → found_in (state_after n k records) bytes ≡ Ok None → good n k records ≡ good n' k' all
       → Bytes bytes → Left n k all records bytes
   left_end records bytes q e b =
       let end = found_end (state_after n k records) bytes q in
@@ -65,7 +64,7 @@ module _ (n k n' k' : ℕ) (all : List Record) where
         heard = ap heard same ∙ end.all_heard;
       }
 
-  left_item : (records : List Record) (bytes : List ℕ) (x : Record) → found_in (state_after n k records) bytes ≡ Item x
+  left_item : (records : List Record) (bytes : List ℕ) (x : Record) → found_in (state_after n k records) bytes ≡ Ok (Some x)
       → (Bytes (drop (size x) bytes) → Left n k all (records ++ (x ∷ [])) (drop (size x) bytes)) → Bytes bytes → Left n k all records bytes
   left_item records bytes x q later b =
       let p = found_item (state_after n k records) bytes x q in
@@ -89,9 +88,9 @@ pub good_is_sheet : (s : List ℕ) → Bytes s → (n k : ℕ) (records : List R
 unfolding verdict
 good_is_sheet s b n k records e = go (opening_of s) refl e
   where
-    go : (o : Opening) → opening_of s ≡ o → after_head s o ≡ good n k records → IsSheet s n k records
-    go (NotOpened f) q g = absurd (let z : ◌≡◌ {A = ℕ} 0 1 = cc g in omega arith)
-    go (Opened r) q g =
+    go : (o : Result Reading SheetFault) → opening_of s ≡ o → after_head s o ≡ good n k records → IsSheet s n k records
+    go (Err f) q g = absurd (let z : ◌≡◌ {A = ℕ} 0 1 = cc g in omega arith)
+    go (Ok r) q g =
         let head = opening_opened s r q in
         let same = reading_extends r.n r.k [] (drop head_size s) n k records g in
         let l = left_reading r.n r.k n k records [] (drop head_size s) g (every_drop (λ (y : ℕ). y < 256) head_size s b) in

@@ -1,6 +1,6 @@
 -- What is known of a head that is found: which bytes it was read from, and that its numbers are in range.
 -- Assumes nothing.
-use Rattle.std.specs.Prelude.{ℕ, ◌≤◌, ◌≡◌, refl, Bool, false, cond, not, List, [], length, drop, ltb, eqb}
+use Rattle.std.specs.Prelude.{ℕ, ◌≤◌, ◌≡◌, refl, Bool, false, cond, not, List, [], length, drop, ltb, eqb, Result, Ok, Err, Option}
 use Rattle.std.proofs.Math.Path.{subst}
 use Rattle.std.proofs.Common.{ltb-false, eqb-true}
 use Rattle.std.proofs.lemmas.Bool.{not-false}
@@ -11,10 +11,8 @@ use Rattle.number_fields.specs.Fields.{number8, number16}
 use Rattle.records.specs.Records.{head_fields, head_size}
 use Rattle.record_tests.proofs.laws.Passed.{cond_both, enough}
 use Rattle.sheet.specs.Verdict.{state_after, head_found, opening_of}
-use Rattle.records.specs.declared.fields.HeadFields.{HeadFields}
+use Rattle.records.specs.declared.fields.Head.{Head}
 use Rattle.reading.specs.declared.Reading.{Reading}
-use Rattle.sheet.specs.declared.opening.Opening.{Opening}
-use Rattle.sheet.specs.declared.opening.Opening.TheVariants.{Head as Opened, Fault as NotOpened}
 
 -- the state after a head: n and k are read from the bytes and in range
 pub record OpenedOk (s : List ℕ) (r : Reading) : Type 0 where
@@ -27,27 +25,27 @@ pub record OpenedOk (s : List ℕ) (r : Reading) : Type 0 where
   pub k_is : number8 (drop 2 s) 2 ≡ r.k
 
 -- what is known where the reading starts so
-OpeningKnown : List ℕ → Opening → Type 0
-OpeningKnown s (Opened r) = OpenedOk s r
-OpeningKnown s (NotOpened f) = Unit {0}
+OpeningKnown : List ℕ → Result Reading SheetFault → Type 0
+OpeningKnown s (Ok r) = OpenedOk s r
+OpeningKnown s (Err f) = Unit {0}
 
 module _ (s : List ℕ) where
-  not_opened_known : (f : SheetFault) → OpeningKnown s (NotOpened f)
+  not_opened_known : (f : SheetFault) → OpeningKnown s (Err f)
   unfolding OpeningKnown
   not_opened_known f = tt
 
-  opened_known : (r : Reading) → OpenedOk s r → OpeningKnown s (Opened r)
+  opened_known : (r : Reading) → OpenedOk s r → OpeningKnown s (Ok r)
   unfolding OpeningKnown
   opened_known r e = e
 
-  head_test : (b : Bool) (f : SheetFault) (y : Opening) → (b ≡ false → OpeningKnown s y) → OpeningKnown s (cond b (NotOpened f) y)
-  head_test b f y g = cond_both (OpeningKnown s) b (NotOpened f) y (λ _. not_opened_known f) g
+  head_test : (b : Bool) (f : SheetFault) (y : Result Reading SheetFault) → (b ≡ false → OpeningKnown s y) → OpeningKnown s (cond b (Err f) y)
+  head_test b f y g = cond_both (OpeningKnown s) b (Err f) y (λ _. not_opened_known f) g
 
   head_known : 2 ≤ length s → number16 s 0 ≡ mark_hd → OpeningKnown s (head_found (head_fields (drop 2 s)))
   head_known two mark_is =
       let n = number16 (drop 2 s) 0 in
       let k = number8 (drop 2 s) 2 in
-      cond_both (λ (f : HeadFields). OpeningKnown s (head_found f)) (ltb (length (drop 2 s)) 3) _ _
+      cond_both (λ (f : Option Head). OpeningKnown s (head_found f)) (ltb (length (drop 2 s)) 3) _ _
       (λ _. not_opened_known _)
       (λ e.
       head_test (ltb n min_nodes) _ _ (λ t1.
@@ -71,6 +69,6 @@ module _ (s : List ℕ) where
       head_test (not (eqb (number16 s 0) mark_hd)) _ _ (λ e.
       head_known (ltb-false (length s) 2 short) (eqb-true (number16 s 0) mark_hd (not-false (eqb (number16 s 0) mark_hd) e))))
 
-  pub opening_opened : (r : Reading) → opening_of s ≡ Opened r → OpenedOk s r
+  pub opening_opened : (r : Reading) → opening_of s ≡ Ok r → OpenedOk s r
   unfolding OpeningKnown
   opening_opened r e = subst (OpeningKnown s) e opening_known

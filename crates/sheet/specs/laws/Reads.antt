@@ -4,7 +4,7 @@
 use Prim.Native.Nat.{ℕ, zero, suc, ◌+◌, ◌≤◌}
 use Rattle.std.proofs.Math.Path.{◌≡◌, refl, sym}
 use Rattle.std.proofs.Common.{◌∙◌, append_assoc, append-nil, arith, length-append, length-drop}
-use Rattle.std.specs.Prelude.{List, [], ◌∷◌, ◌++◌, length, drop}
+use Rattle.std.specs.Prelude.{List, [], ◌∷◌, ◌++◌, length, drop, Ok, Err, Some, None}
 use Rattle.answer.specs.declared.SheetFault.{SheetFault}
 use Rattle.subset.proofs.Unions.{unions_more}
 use Rattle.records.specs.Records.{record_bytes, sizes, head_size, size}
@@ -13,8 +13,7 @@ use Rattle.records.proofs.laws.Appended.{size_low, sizes_append, count_more}
 use Rattle.reading.specs.Steps.{after, found_in}
 use Rattle.sheet.specs.Verdict.{good, bad, state_after, read_for, reading}
 use Rattle.records.specs.declared.record.Record.{Record}
-use Rattle.record_tests.specs.declared.Found.{Found}
-use Rattle.record_tests.specs.declared.Found.TheVariants.{Item, End, Fault}
+use Rattle.record_tests.specs.Tests.{Found}
 
 -- ---- one record more
 
@@ -29,17 +28,17 @@ state_more n k records x =
 -- ---- turns
 
 -- one turn, by what is found
-turn_item : (turns n k : ℕ) (records : List Record) (bytes : List ℕ) (x : Record) → found_in (state_after n k records) bytes ≡ Item x
+turn_item : (turns n k : ℕ) (records : List Record) (bytes : List ℕ) (x : Record) → found_in (state_after n k records) bytes ≡ Ok (Some x)
     → read_for (suc turns) n k records bytes ≡ read_for turns n k (records ++ (x ∷ [])) (drop (size x) bytes)
 unfolding read_for
 turn_item turns n k records bytes x e = rw (e, read_for)
 
-turn_end : (turns n k : ℕ) (records : List Record) (bytes : List ℕ) → found_in (state_after n k records) bytes ≡ End
+turn_end : (turns n k : ℕ) (records : List Record) (bytes : List ℕ) → found_in (state_after n k records) bytes ≡ Ok None
     → read_for (suc turns) n k records bytes ≡ good n k records
 unfolding read_for
 turn_end turns n k records bytes e = rw (e, read_for)
 
-turn_fault : (turns n k : ℕ) (records : List Record) (bytes : List ℕ) (f : SheetFault) → found_in (state_after n k records) bytes ≡ Fault f
+turn_fault : (turns n k : ℕ) (records : List Record) (bytes : List ℕ) (f : SheetFault) → found_in (state_after n k records) bytes ≡ Err f
     → read_for (suc turns) n k records bytes ≡ bad f
 unfolding read_for
 turn_fault turns n k records bytes f e = rw (e, read_for)
@@ -65,9 +64,9 @@ same_turns (suc a) (suc b) n k records bytes g h =
 
     go : ((x : Record) → read_for a n k (records ++ (x ∷ [])) (drop (size x) bytes) ≡ read_for b n k (records ++ (x ∷ [])) (drop (size x) bytes))
         → (f : Found) → found_in (state_after n k records) bytes ≡ f → read_for (suc a) n k records bytes ≡ read_for (suc b) n k records bytes
-    go same (Item x) e = turn_item a n k records bytes x e ∙ same x ∙ sym (turn_item b n k records bytes x e)
-    go same End e = turn_end a n k records bytes e ∙ sym (turn_end b n k records bytes e)
-    go same (Fault f) e = turn_fault a n k records bytes f e ∙ sym (turn_fault b n k records bytes f e)
+    go same (Ok (Some x)) e = turn_item a n k records bytes x e ∙ same x ∙ sym (turn_item b n k records bytes x e)
+    go same (Ok None) e = turn_end a n k records bytes e ∙ sym (turn_end b n k records bytes e)
+    go same (Err f) e = turn_fault a n k records bytes f e ∙ sym (turn_fault b n k records bytes f e)
 
 -- more turns change nothing
 pub more_turns : (turns n k : ℕ) (records : List Record) (bytes : List ℕ) → length bytes ≤ turns → read_for turns n k records bytes ≡ reading n k records bytes
@@ -80,25 +79,25 @@ module _ (n k : ℕ) (records : List Record) (bytes : List ℕ) where
   one_more : reading n k records bytes ≡ read_for (suc (length bytes)) n k records bytes
   one_more = sym (more_turns (suc (length bytes)) n k records bytes (omega arith))
 
-  pub reading_item : (x : Record) → found_in (state_after n k records) bytes ≡ Item x
+  pub reading_item : (x : Record) → found_in (state_after n k records) bytes ≡ Ok (Some x)
       → reading n k records bytes ≡ reading n k (records ++ (x ∷ [])) (drop (size x) bytes)
   reading_item x e =
       one_more ∙ turn_item (length bytes) n k records bytes x e
       ∙ more_turns (length bytes) n k (records ++ (x ∷ [])) (drop (size x) bytes) (omega (arith, length-drop (size x) bytes))
 
-  pub reading_end : found_in (state_after n k records) bytes ≡ End → reading n k records bytes ≡ good n k records
+  pub reading_end : found_in (state_after n k records) bytes ≡ Ok None → reading n k records bytes ≡ good n k records
   reading_end e = one_more ∙ turn_end (length bytes) n k records bytes e
 
-  pub reading_fault : (f : SheetFault) → found_in (state_after n k records) bytes ≡ Fault f → reading n k records bytes ≡ bad f
+  pub reading_fault : (f : SheetFault) → found_in (state_after n k records) bytes ≡ Err f → reading n k records bytes ≡ bad f
   reading_fault f e = one_more ∙ turn_fault (length bytes) n k records bytes f e
 
 -- ---- a good verdict
 
 -- what holds at the end of a good reading, and before each record if it holds after it, holds wherever the rest is read to that verdict
 module _ (n k n' k' : ℕ) (all : List Record) (P : List Record → List ℕ → Type 0)
-    (at_end : (records : List Record) (bytes : List ℕ) → found_in (state_after n k records) bytes ≡ End → good n k records ≡ good n' k' all
+    (at_end : (records : List Record) (bytes : List ℕ) → found_in (state_after n k records) bytes ≡ Ok None → good n k records ≡ good n' k' all
     → P records bytes)
-    (at_item : (records : List Record) (bytes : List ℕ) (x : Record) → found_in (state_after n k records) bytes ≡ Item x
+    (at_item : (records : List Record) (bytes : List ℕ) (x : Record) → found_in (state_after n k records) bytes ≡ Ok (Some x)
     → P (records ++ (x ∷ [])) (drop (size x) bytes) → P records bytes)
   where
     in_turns : (turns : ℕ) (records : List Record) (bytes : List ℕ) → read_for turns n k records bytes ≡ good n' k' all → P records bytes
@@ -109,9 +108,9 @@ module _ (n k n' k' : ℕ) (all : List Record) (P : List Record → List ℕ →
       where
         go : ((x : Record) → read_for turns n k (records ++ (x ∷ [])) (drop (size x) bytes) ≡ good n' k' all → P (records ++ (x ∷ [])) (drop (size x) bytes))
             → (f : Found) → found_in (state_after n k records) bytes ≡ f → P records bytes
-        go later (Item x) q = at_item records bytes x q (later x (sym (turn_item turns n k records bytes x q) ∙ e))
-        go later End q = at_end records bytes q (sym (turn_end turns n k records bytes q) ∙ e)
-        go later (Fault f) q =
+        go later (Ok (Some x)) q = at_item records bytes x q (later x (sym (turn_item turns n k records bytes x q) ∙ e))
+        go later (Ok None) q = at_end records bytes q (sym (turn_end turns n k records bytes q) ∙ e)
+        go later (Err f) q =
             let b : bad f ≡ good n' k' all = sym (turn_fault turns n k records bytes f q) ∙ e in
             absurd (let z : ◌≡◌ {A = ℕ} 0 1 = cc b in omega arith)
 
@@ -129,13 +128,13 @@ pub reading_extends : (n k : ℕ) (records : List Record) (bytes : List ℕ) (n'
     → Extends n k records n' k' all
 reading_extends n k records bytes n' k' all = good_reading n k n' k' all (λ before left. Extends n k before n' k' all) at_end at_item records bytes
   where
-    at_end : (before : List Record) (left : List ℕ) → found_in (state_after n k before) left ≡ End → good n k before ≡ good n' k' all
+    at_end : (before : List Record) (left : List ℕ) → found_in (state_after n k before) left ≡ Ok None → good n k before ≡ good n' k' all
         → Extends n k before n' k' all
     at_end before left q e =
         let same : all ≡ before = cc e in
         record { same_n = cc e; same_k = cc e; more = []; rest = same ∙ sym (append-nil before) }
 
-    at_item : (before : List Record) (left : List ℕ) (x : Record) → found_in (state_after n k before) left ≡ Item x
+    at_item : (before : List Record) (left : List ℕ) (x : Record) → found_in (state_after n k before) left ≡ Ok (Some x)
         → Extends n k (before ++ (x ∷ [])) n' k' all → Extends n k before n' k' all
     at_item before left x q later =
         record {

@@ -1,6 +1,6 @@
 -- The bytes of the head, of a record and of the end: what is read from them, and what they are where something was read.
 -- Assumes nothing.
-use Rattle.std.specs.Prelude.{ℕ, ◌+◌, ◌≤◌, ◌<◌, ◌^◌, ◌≡◌, refl, cond, List, [], ◌∷◌, ◌++◌, length, drop, ltb}
+use Rattle.std.specs.Prelude.{ℕ, ◌+◌, ◌≤◌, ◌<◌, ◌^◌, ◌≡◌, refl, cond, List, [], ◌∷◌, ◌++◌, length, drop, ltb, Ok, Some, None}
 use Rattle.std.proofs.Common.{ap, ◌∙◌, arith, drop_of_length-le, length-drop, drop-drop, le-ltb, eq-eqb, ne_eqb}
 use Rattle.std.proofs.lemmas.Bool.{lt-leb}
 use Rattle.limits.specs.Limits.{min_nodes, max_nodes, min_terminals, max_terminals, max_arcs, min_weight, max_weight}
@@ -16,15 +16,11 @@ use Rattle.record_tests.proofs.laws.Passed.{LinkRead, ReadFrom, EndOk}
 use Rattle.reading.specs.Steps.{found_in}
 use Rattle.sheet.specs.Verdict.{state_after, head_found, opening_of}
 use Rattle.sheet.specs.laws.Opened.{OpenedOk}
-use Rattle.records.specs.declared.fields.HeadFields.TheVariants.{Fields as Head}
-use Rattle.records.specs.declared.fields.LinkFields.TheVariants.{Fields as Link}
-use Rattle.records.specs.declared.fields.LandingFields.TheVariants.{Fields as LandingAt}
-use Rattle.records.specs.declared.fields.SenderFields.TheVariants.{Fields as SenderAt}
+use Rattle.records.specs.declared.fields.Link.{Link}
+use Rattle.records.specs.declared.fields.Landing.{Landing as LandingAt}
 use Rattle.records.specs.declared.record.Record.{Record}
 use Rattle.records.specs.declared.record.Record.TheVariants.{OneWay, BothWays, Landing, Sender}
 use Rattle.reading.specs.declared.Reading.{Reading}
-use Rattle.sheet.specs.declared.opening.Opening.TheVariants.{Head as Opened}
-use Rattle.record_tests.specs.declared.Found.TheVariants.{Item, End}
 
 -- ---- what was read, in bytes
 
@@ -88,17 +84,18 @@ passed m n x y h = rw (le-ltb m n h)
 
 -- the fields of a link are read from their bytes
 link_read : (start end weight : ℕ) (rest : List ℕ) → start < 2 ^ 16 → end < 2 ^ 16 → weight < 2 ^ 32
-    → link_fields (bytes16 start ++ bytes16 end ++ bytes32 weight ++ rest) ≡ Link start end weight
+    → link_fields (bytes16 start ++ bytes16 end ++ bytes32 weight ++ rest) ≡ Some (record { start = start; end = end; weight = weight })
 link_read start end weight rest a b c =
     passed (length (bytes16 start ++ bytes16 end ++ bytes32 weight ++ rest)) 8 _ _ (omega arith)
-    ∙ λ i. Link
-    (number16_bytes start (bytes16 end ++ bytes32 weight ++ rest) a i)
-    (number16_bytes end (bytes32 weight ++ rest) b i)
-    (number32_bytes weight rest c i)
+    ∙ λ i. Some (record {
+      start = number16_bytes start (bytes16 end ++ bytes32 weight ++ rest) a i;
+      end = number16_bytes end (bytes32 weight ++ rest) b i;
+      weight = number32_bytes weight rest c i;
+    })
 
 -- a link that passes its tests is found
 link_passes : (at n legs start end weight : ℕ) (x : Record) → LinkOk n start end weight → legs + length (arcs_of x) ≤ max_arcs
-    → link_tests at n legs start end weight x ≡ Item x
+    → link_tests at n legs start end weight x ≡ Ok (Some x)
 link_passes at n legs start end weight x ok few =
     simp (
       lt-leb n start ok.start_below,
@@ -111,7 +108,7 @@ link_passes at n legs start end weight x ok few =
 
 -- a record that passes its tests is read from its bytes, whatever follows
 pub found_bytes : (r : Reading) (x : Record) (rest : List ℕ) → RecordOk r.n r.k x → r.n ≤ max_nodes → r.arcs + length (arcs_of x) ≤ max_arcs
-    → found_in r (record_bytes x ++ rest) ≡ Item x
+    → found_in r (record_bytes x ++ rest) ≡ Ok (Some x)
 found_bytes r (OneWay start end weight) rest ok small few =
     passed (length (record_bytes (OneWay start end weight) ++ rest)) 2 _ _ (omega arith)
     ∙ ap (one_way_found r.offset r.n r.arcs) (link_read start end weight rest (omega arith) (omega arith) (omega arith))
@@ -124,25 +121,25 @@ found_bytes r (Landing terminal node) rest ok small few =
     passed (length (record_bytes (Landing terminal node) ++ rest)) 2 _ _ (omega arith)
     ∙ ap (landing_found r.offset r.n r.k)
     (passed (length ((terminal ∷ []) ++ bytes16 node ++ rest)) 3 _ _ (omega arith)
-    ∙ ap (LandingAt terminal) (number16_bytes node rest (omega arith)))
+    ∙ ap (λ (v : ℕ). Some (record { terminal = terminal; node = v })) (number16_bytes node rest (omega arith)))
     ∙ simp (lt-leb r.k terminal ok.0, lt-leb r.n node ok.1)
 found_bytes r (Sender node) rest ok small few =
     passed (length (record_bytes (Sender node) ++ rest)) 2 _ _ (omega arith)
-    ∙ ap (sender_found r.offset r.n) (passed (length (bytes16 node ++ rest)) 2 _ _ (omega arith) ∙ ap SenderAt (number16_bytes node rest (omega arith)))
+    ∙ ap (sender_found r.offset r.n) (passed (length (bytes16 node ++ rest)) 2 _ _ (omega arith) ∙ ap (λ (v : ℕ). Some v) (number16_bytes node rest (omega arith)))
     ∙ simp (lt-leb r.n node ok)
 
 -- the end is read from its bytes where every station has a landing
-pub found_end_bytes : (r : Reading) → r.heard.0 ≡ full r.k → found_in r end_bytes ≡ End
+pub found_end_bytes : (r : Reading) → r.heard.0 ≡ full r.k → found_in r end_bytes ≡ Ok None
 found_end_bytes r e = simp (eq-eqb r.heard.0 (full r.k) e)
 
 -- a head in range is read from its bytes, whatever follows
 pub opening_bytes : (n k : ℕ) (rest : List ℕ) → (min_nodes ≤ n) × (n ≤ max_nodes) → (min_terminals ≤ k) × (k ≤ max_terminals)
-    → opening_of (head_bytes n k ++ rest) ≡ Opened (state_after n k [])
+    → opening_of (head_bytes n k ++ rest) ≡ Ok (state_after n k [])
 opening_bytes n k rest nodes terminals =
     passed (length (head_bytes n k ++ rest)) 2 _ _ (omega arith)
     ∙ ap head_found
     (passed (length (bytes16 n ++ (k ∷ []) ++ rest)) 3 _ _ (omega arith)
-    ∙ ap (λ (m : ℕ). Head m k) (number16_bytes n ((k ∷ []) ++ rest) (omega arith)))
+    ∙ ap (λ (m : ℕ). Some (record { n = m; k = k })) (number16_bytes n ((k ∷ []) ++ rest) (omega arith)))
     ∙ simp (le-ltb n min_nodes nodes.0, le-ltb max_nodes n nodes.1, le-ltb k min_terminals terminals.0, le-ltb max_terminals k terminals.1)
 
 -- and the rest of the bytes is what follows

@@ -1,6 +1,6 @@
 -- A reading underway: the state is that after the head and some records, and the bytes that are left decide the verdict.
 -- Assumes nothing.
-use Rattle.std.specs.Prelude.{ℕ, ◌+◌, ◌-◌, ◌≤◌, ◌<◌, ◌≡◌, refl, List, [], ◌∷◌, ◌++◌, length}
+use Rattle.std.specs.Prelude.{ℕ, ◌+◌, ◌-◌, ◌≤◌, ◌<◌, ◌≡◌, refl, List, [], ◌∷◌, ◌++◌, length, Ok, Err, Some, None}
 use Rattle.std.proofs.Math.Path.{sym, ap}
 use Rattle.std.proofs.Common.{◌∙◌, subst, arith, drop-drop}
 use Rattle.std.proofs.Math.ListN.{drop, length-drop}
@@ -9,18 +9,14 @@ use Rattle.answer.specs.declared.SheetFault.{SheetFault}
 use Rattle.records.specs.Records.{sizes, head_size, size}
 use Rattle.records.specs.Arcs.{arcs}
 use Rattle.records.proofs.laws.Appended.{size_low}
-use Rattle.reading.specs.Steps.{after, found_in, step_after, step_of}
+use Rattle.reading.specs.Steps.{after, found_in, Step, step_after, step_of}
 use Rattle.reading.specs.laws.Found.{found_item}
 use Rattle.sheet.specs.Verdict.{good, bad, state_after, opening_of, reading, after_head, verdict}
 use Rattle.sheet.specs.laws.Opened.{opening_opened}
 use Rattle.sheet.specs.laws.Reads.{state_more, reading_item, reading_end, reading_fault}
 use Rattle.records.specs.declared.record.Record.{Record}
 use Rattle.reading.specs.declared.Reading.{Reading}
-use Rattle.sheet.specs.declared.opening.Opening.TheVariants.{Head as Opened, Fault as NotOpened}
-use Rattle.record_tests.specs.declared.Found.{Found}
-use Rattle.record_tests.specs.declared.Found.TheVariants.{Item, End, Fault}
-use Rattle.reading.specs.declared.Step.{Step}
-use Rattle.reading.specs.declared.Step.TheVariants.{Next, End as Ended, Fault as Stopped}
+use Rattle.record_tests.specs.Tests.{Found}
 
 pub record Underway (s : List ℕ) (r : Reading) : Type 0 where
   pub n : ℕ
@@ -38,7 +34,7 @@ ready s r u =
     subst (λ (q : Reading). (q.arcs ≤ max_arcs) × (q.k ≤ max_terminals) × (q.offset ≤ length s)) (sym u.state) (u.few, u.terminals, u.within)
 
 -- the state after the head
-pub underway_opened : (s : List ℕ) (r : Reading) → opening_of s ≡ Opened r → Underway s r
+pub underway_opened : (s : List ℕ) (r : Reading) → opening_of s ≡ Ok r → Underway s r
 unfolding verdict
 underway_opened s r e =
     let o = opening_opened s r e in
@@ -54,25 +50,25 @@ underway_opened s r e =
     }
 
 -- a sheet whose head is refused
-pub not_opened : (s : List ℕ) (f : SheetFault) → opening_of s ≡ NotOpened f → verdict s ≡ bad f
+pub not_opened : (s : List ℕ) (f : SheetFault) → opening_of s ≡ Err f → verdict s ≡ bad f
 unfolding verdict
 not_opened s f e = ap (after_head s) e
 
 -- what a step has found
-step_next : (r : Reading) (f : Found) (q : Reading) → step_after r f ≡ Next q → (x : Record) × (f ≡ Item x) × (q ≡ after r x)
-step_next r (Item y) q e = (y, refl, cc)
-step_next r End q e = let z : ◌≡◌ {A = ℕ} 0 1 = cc in absurd (omega arith)
-step_next r (Fault g) q e = let z : ◌≡◌ {A = ℕ} 0 1 = cc in absurd (omega arith)
+step_next : (r : Reading) (f : Found) (q : Reading) → step_after r f ≡ Ok (Some q) → (x : Record) × (f ≡ Ok (Some x)) × (q ≡ after r x)
+step_next r (Ok (Some y)) q e = (y, refl, cc)
+step_next r (Ok None) q e = let z : ◌≡◌ {A = ℕ} 0 1 = cc in absurd (omega arith)
+step_next r (Err g) q e = let z : ◌≡◌ {A = ℕ} 0 1 = cc in absurd (omega arith)
 
-step_end : (r : Reading) (f : Found) → step_after r f ≡ Ended → f ≡ End
-step_end r (Item y) e = cc
-step_end r End e = refl
-step_end r (Fault g) e = cc
+step_end : (r : Reading) (f : Found) → step_after r f ≡ Ok None → f ≡ Ok None
+step_end r (Ok (Some y)) e = cc
+step_end r (Ok None) e = refl
+step_end r (Err g) e = cc
 
-step_fault : (r : Reading) (f : Found) (g : SheetFault) → step_after r f ≡ Stopped g → f ≡ Fault g
-step_fault r (Item y) g e = cc
-step_fault r End g e = cc
-step_fault r (Fault h) g e = cc
+step_fault : (r : Reading) (f : Found) (g : SheetFault) → step_after r f ≡ Err g → f ≡ Err g
+step_fault r (Ok (Some y)) g e = cc
+step_fault r (Ok None) g e = cc
+step_fault r (Err h) g e = cc
 
 module _ (s : List ℕ) (r : Reading) (u : Underway s r) where
   at : Reading
@@ -93,10 +89,10 @@ module _ (s : List ℕ) (r : Reading) (u : Underway s r) where
     pub within : head_size + sizes (u.records ++ (item ∷ [])) ≤ length s
     pub same : verdict s ≡ reading u.n u.k (u.records ++ (item ∷ [])) (drop (head_size + sizes (u.records ++ (item ∷ []))) s)
 
-  stepped : (q : Reading) → step_of r s ≡ Next q → Stepped q
+  stepped : (q : Reading) → step_of r s ≡ Ok (Some q) → Stepped q
   unfolding at left
   stepped q e =
-      let (x, found, next) = step_next at (found_in at left) q (step_here (Next q) e) in
+      let (x, found, next) = step_next at (found_in at left) q (step_here (Ok (Some q)) e) in
       let p = found_item at left x found in
       let m = state_more u.n u.k u.records x in
       let o = ap (λ (z : Reading). z.offset) m in
@@ -111,7 +107,7 @@ module _ (s : List ℕ) (r : Reading) (u : Underway s r) where
             ∙ ap (reading u.n u.k (u.records ++ (x ∷ []))) (drop-drop (size x) (head_size + sizes u.records) s ∙ ap (λ (z : ℕ). drop z s) (sym o));
       }
 
-  pub underway_next : (q : Reading) → step_of r s ≡ Next q → Underway s q
+  pub underway_next : (q : Reading) → step_of r s ≡ Ok (Some q) → Underway s q
   underway_next q e =
       let w = stepped q e in
       record {
@@ -126,7 +122,7 @@ module _ (s : List ℕ) (r : Reading) (u : Underway s r) where
       }
 
   -- what is left falls
-  pub falls : (q : Reading) → step_of r s ≡ Next q → length s - q.offset < length s - r.offset
+  pub falls : (q : Reading) → step_of r s ≡ Ok (Some q) → length s - q.offset < length s - r.offset
   falls q e =
       let w = stepped q e in
       let o = ap (λ (z : Reading). z.offset) (state_more u.n u.k u.records w.item) in
@@ -135,10 +131,10 @@ module _ (s : List ℕ) (r : Reading) (u : Underway s r) where
       omega (arith, w.within, o, a, b, size_low w.item)
 
   -- the end of the reading
-  pub ended : step_of r s ≡ Ended → verdict s ≡ good u.n u.k u.records
+  pub ended : step_of r s ≡ Ok None → verdict s ≡ good u.n u.k u.records
   unfolding at left
-  ended e = u.same ∙ reading_end u.n u.k u.records left (step_end at (found_in at left) (step_here Ended e))
+  ended e = u.same ∙ reading_end u.n u.k u.records left (step_end at (found_in at left) (step_here (Ok None) e))
 
-  pub stopped : (f : SheetFault) → step_of r s ≡ Stopped f → verdict s ≡ bad f
+  pub stopped : (f : SheetFault) → step_of r s ≡ Err f → verdict s ≡ bad f
   unfolding at left
-  stopped f e = u.same ∙ reading_fault u.n u.k u.records left f (step_fault at (found_in at left) f (step_here (Stopped f) e))
+  stopped f e = u.same ∙ reading_fault u.n u.k u.records left f (step_fault at (found_in at left) f (step_here (Err f) e))

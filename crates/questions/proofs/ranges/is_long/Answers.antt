@@ -1,7 +1,0 @@
--- `questions::ranges::is_long` meets its contract: the product is small.
--- Assumes nothing.
-use Rattle.std.proofs.Common.{mul-le-mul, arith}
-use Rattle.questions.proofs.ranges.is_long.Goals as goal
-
-pub overflow_mul-result : goal.overflow_mul-result
-overflow_mul-result c = omega (arith, mul-le-mul c.requires.0 c.requires.1)

@@ -1,9 +1,0 @@
--- `record_tests::one_way` meets its contract. The fields are those that link_fields read.
--- Assumes nothing.
-use Rattle.record_tests.proofs.one_way.Goals as goal
-
-pub returns-in-Short : goal.returns-in-Short
-returns-in-Short c = simp (← c.link_fields-read.ensures, c.in-Short.is)
-
-pub returns-in-Fields : goal.returns-in-Fields
-returns-in-Fields c = simp (← c.link_fields-read.ensures, c.in-Fields.is) c.tested_link.ensures
