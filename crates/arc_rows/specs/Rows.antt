@@ -3,7 +3,6 @@
 use Rattle.std.specs.Prelude.{ℕ, ◌≤◌, ◌<◌, ◌≡◌, List, T, length, get_or}
 use Rattle.lists.specs.Listed.{listed}
 use Rattle.graph.specs.Graph.{Graph}
-use Rattle.planfile.specs.Format.{file_size, arcs_to}
 use Rattle.marking.specs.Links.{Within, Below}
 use Rattle.marking.specs.Marking.{Carried}
 
@@ -16,10 +15,9 @@ abbrev pub AllBelow : ℕ → List ℕ → Type 0
 AllBelow n entries = (i : ℕ) → i < length entries → get_or entries i 0 < n
 
 -- what the walk along the rows asks for
-pub record RowsReady (file : List ℕ) (count : ℕ) (starts ends next : List ℕ) (n : ℕ) : Type 0 where
-  pub whole : file_size count ≤ length file
-  pub within : Within n (arcs_to file count) starts ends
-  pub linked : Below (length next) (arcs_to file count)
+pub record RowsReady (L starts ends next : List ℕ) (n : ℕ) : Type 0 where
+  pub within : Within n L starts ends
+  pub linked : Below (length next) L
 
 -- a queue with node v at its end, where there was room, and the number of its nodes
 pub record Queued (v : ℕ) (before after : List ℕ) (tail : ℕ) : Type 0 where

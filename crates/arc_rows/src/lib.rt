@@ -5,13 +5,13 @@
 
 ghost use Rattle.std.specs.Prelude.{◌≤◌, ◌<◌, length};
 ghost use Rattle.limits.specs.Limits.{max_nodes, max_arcs};
-ghost use Rattle.planfile.specs.Format.{file_size, arcs_to};
+ghost use Rattle.planfile.specs.Listed.{arcs_of};
 ghost use Rattle.marking.specs.Links.{link_graph, Within, Below};
 ghost use Rattle.marking.specs.Marking.{Carried};
 ghost use Rattle.arc_rows.specs.Rows.{StartsBelow, AllBelow, RowsReady, Queued, RowMarked};
 
 use marking::mark_end;
-use planfile::fields::arc_at;
+use planfile::fields::Listing;
 
 const MAX_NODES: usize = limits::MAX_NODES as usize;
 
@@ -37,19 +37,16 @@ fn later_record(next: u16, i: u16) -> u16 {
 }
 
 // Each listed leg comes into the row of its start: `first` has the first record of each site's row, `next` the record after each leg's.
-fn link(file: &[u8], count: u16, starts: &[u16], first: &mut [u16], next: &mut [u16])
-    requires { (file_size count ≤ length file.now) × StartsBelow (length first.old) (arcs_to file.now count) starts.now
-        × Below (length next.old) (arcs_to file.now count) }
+fn link(listing: Listing, starts: &[u16], first: &mut [u16], next: &mut [u16])
+    requires { StartsBelow (length first.old) (arcs_of listing) starts.now × Below (length next.old) (arcs_of listing) }
 {
-    let mut i = 0;
-    while i < count {
-        let e = arc_at(file, i as usize) as usize;
+    for i in 0..listing.count {
+        let e = listing.arc(i);
         let start = starts[e] as usize;
         if next[e] == NO_RECORD {
             next[e] = followed_by(first[start], i);
             first[start] = i;
         }
-        i += 1;
     }
 }
 
@@ -67,8 +64,7 @@ fn push(queue: &mut [u16], tail: usize, v: u16) -> usize
 
 // The legs of one row mark their ends, which come into the queue.
 fn mark_row(
-    file: &[u8],
-    count: u16,
+    listing: Listing,
     starts: &[u16],
     ends: &[u16],
     next: &[u16],
@@ -77,32 +73,29 @@ fn mark_row(
     queue: &mut [u16],
     marks: &mut [u8],
 ) -> usize
-    requires { RowsReady file.now count starts.now ends.now next.now (length marks.old) × AllBelow (length marks.old) queue.old
+    requires { RowsReady (arcs_of listing) starts.now ends.now next.now (length marks.old) × AllBelow (length marks.old) queue.old
         × (queued ≤ length queue.old) }
-    ensures { RowMarked (link_graph (length marks.old) starts.now ends.now) (arcs_to file.now count)
+    ensures { RowMarked (link_graph (length marks.old) starts.now ends.now) (arcs_of listing.entry)
         marks.old marks.new queue.new result }
 {
     let mut tail = queued;
     let mut i = first;
-    let mut turns: u16 = 0;
-    while turns < count {
-        if count <= i {
-            return tail;
+    for _ in 0..listing.count {
+        if listing.count <= i {
+            break;
         }
-        let e = arc_at(file, i as usize) as usize;
+        let e = listing.arc(i);
         if mark_end(starts, ends, e, marks) {
             tail = push(queue, tail, ends[e]);
         }
         i = later_record(next[e], i);
-        turns += 1;
     }
     tail
 }
 
 // From the root on, the row of each site in the queue.
 fn walk(
-    file: &[u8],
-    count: u16,
+    listing: Listing,
     starts: &[u16],
     ends: &[u16],
     first: &[u16],
@@ -111,34 +104,33 @@ fn walk(
     queue: &mut [u16],
     marks: &mut [u8],
 )
-    requires { RowsReady file.now count starts.now ends.now next.now (length marks.old) × AllBelow (length marks.old) queue.old
+    requires { RowsReady (arcs_of listing) starts.now ends.now next.now (length marks.old) × AllBelow (length marks.old) queue.old
         × (root < length marks.old) × (length marks.old ≤ length first.now) }
-    ensures { Carried (link_graph (length marks.old) starts.now ends.now) (arcs_to file.now count)
+    ensures { Carried (link_graph (length marks.old) starts.now ends.now) (arcs_of listing.entry)
         marks.old marks.new }
 {
     let mut tail = push(queue, 0, root);
     let mut at = 0;
+    // The index is counted by hand: the queue grows while it is walked.
     while at < tail {
         let v = queue[at] as usize;
-        tail = mark_row(
-            file, count, starts, ends, next, first[v], tail, queue, marks,
-        );
+        tail = mark_row(listing, starts, ends, next, first[v], tail, queue, marks);
         at += 1;
     }
 }
 
 // The rows, and the walk along them.
-pub fn mark_rows(file: &[u8], count: u16, root: u16, starts: &[u16], ends: &[u16], marks: &mut [u8])
-    requires { (root < length marks.old) × (length marks.old ≤ max_nodes) × (file_size count ≤ length file.now)
-        × Within (length marks.old) (arcs_to file.now count) starts.now ends.now × Below max_arcs (arcs_to file.now count) }
-    ensures { Carried (link_graph (length marks.old) starts.now ends.now) (arcs_to file.now count)
+pub fn mark_rows(listing: Listing, root: u16, starts: &[u16], ends: &[u16], marks: &mut [u8])
+    requires { (root < length marks.old) × (length marks.old ≤ max_nodes)
+        × Within (length marks.old) (arcs_of listing) starts.now ends.now × Below max_arcs (arcs_of listing) }
+    ensures { Carried (link_graph (length marks.old) starts.now ends.now) (arcs_of listing.entry)
         marks.old marks.new }
 {
     let mut first = [NO_RECORD; MAX_NODES];
     let mut next = [NO_RECORD; MAX_ARCS];
     let mut queue = [0u16; MAX_NODES];
-    link(file, count, starts, &mut first, &mut next);
+    link(listing, starts, &mut first, &mut next);
     walk(
-        file, count, starts, ends, &first, &next, root, &mut queue, marks,
+        listing, starts, ends, &first, &next, root, &mut queue, marks,
     );
 }

@@ -8,7 +8,7 @@ ghost use Rattle.lent_tables.specs.SheetTables.{sheet_tables};
 ghost use Rattle.graph.specs.HeldGraph.{graph_in};
 ghost use Rattle.lent_tables.specs.Lengths.{marks_only};
 ghost use Rattle.network.specs.HeldSheet.{HeldSheet};
-ghost use Rattle.planfile.specs.Format.{arcs_to};
+ghost use Rattle.planfile.specs.Listed.{arcs_of};
 ghost use Rattle.marking.specs.Links.{link_graph};
 ghost use Rattle.reaching.specs.Marks.{marks_of};
 ghost use Rattle.plan_tests.specs.PlanFaults.{answered_as};
@@ -16,18 +16,18 @@ ghost use Rattle.plan_tests.specs.ByMarks.{judged_fault};
 ghost use Rattle.file_reader.specs.FileAnswer.{answer_to, marks_after};
 ghost use Rattle.file_reader.specs.ArcsReady.{ArcsReady};
 
-use answer::{Answer, Refusal};
-use file_tests::{Opened, open_file};
+use answer::Answer;
+use file_tests::open_file;
 use plan_tests::test_plan;
+use planfile::fields::Listing;
 use reaching::reach;
 
 // The legs of a file that has no fault by itself: the sites that they reach are marked, and the plan is tested. The marks have one entry
 // for each site.
 fn read_arcs(
-    file: &[u8],
+    listing: Listing,
     root: u16,
     total: u32,
-    count: u16,
     k: u8,
     starts: &[u16],
     ends: &[u16],
@@ -35,13 +35,14 @@ fn read_arcs(
     landings: &[u16],
     marks: &mut [u8],
 ) -> Answer
-    requires { let t = sheet_tables starts.now ends.now weights.now landings.now in ArcsReady file.now root count k t marks.old }
-    ensures { let t = sheet_tables starts.now ends.now weights.now landings.now in
-        ((marks.new ≡ marks_of (link_graph (length marks.old) t.starts t.ends) (arcs_to file.now count) root)
-        × (stated result ≡ answered_as (judged_fault file.now root total count k t.weights t.landings marks.new) root total count)) }
+    requires { let t = sheet_tables starts.now ends.now weights.now landings.now in ArcsReady listing.file.now root listing.count k t marks.old }
+    ensures { let l = listing.entry in
+        (let t = sheet_tables starts.now ends.now weights.now landings.now in
+        ((marks.new ≡ marks_of (link_graph (length marks.old) t.starts t.ends) (arcs_of l) root)
+        × (stated result ≡ answered_as (judged_fault l.file.now root total l.count k t.weights t.landings marks.new) root total l.count))) }
 {
-    reach(file, count, root, starts, ends, marks);
-    test_plan(file, root, total, count, k, weights, landings, marks)
+    reach(listing, root, starts, ends, marks);
+    test_plan(listing, root, total, k, weights, landings, marks)
 }
 
 // A file, against the tables that hold a sheet with n sites, k stations and so many legs.
@@ -60,23 +61,21 @@ pub fn read_file(
     ensures { let G = graph_in n k arcs (sheet_tables starts.now ends.now weights.now landings.now) in
         ((stated result ≡ answer_to G file.now) × (marks.new ≡ marks_after G file.now marks.old)) }
 {
-    let opened = open_file(file, n, arcs);
-    match opened {
-        Opened::Fault(fault) => Answer::Refused(Refusal::PlanFile(fault)),
-        Opened::Fields { root, total, count } => {
-            let nodes = n as usize;
-            read_arcs(
-                file,
-                root,
-                total,
-                count,
-                k,
-                starts,
-                ends,
-                weights,
-                landings,
-                &mut marks[..nodes],
-            )
-        }
-    }
+    let head = open_file(file, n, arcs)?;
+    let listing = Listing {
+        file,
+        count: head.count,
+    };
+    let nodes = n as usize;
+    read_arcs(
+        listing,
+        head.root,
+        head.total,
+        k,
+        starts,
+        ends,
+        weights,
+        landings,
+        &mut marks[..nodes],
+    )
 }

@@ -12,9 +12,10 @@ ghost use Rattle.file_reader.specs.FileAnswer.{marks_after};
 ghost use Rattle.file_shares.specs.Sharing.{sharing_to, shares_after};
 ghost use Rattle.file_shares.specs.PlanReady.{PlanReady, SomePlan, Divided};
 
-use answer::{Answer, Sharing};
+use answer::{Shared, Sharing};
 use file_reader::read_file;
 use limits::Cost;
+use planfile::fields::Listing;
 use price_parts::split_listed;
 use serving::parents::{NO_PARENT, set_parents};
 use serving::seats::serve;
@@ -24,8 +25,7 @@ const MAX_NODES: usize = limits::MAX_NODES as usize;
 // The prices of the listed legs, divided over k stations: the shares, one entry a station, and the unassigned sum. The marks have one entry for
 // each site, and the listed legs are a plan.
 fn divide(
-    file: &[u8],
-    count: u16,
+    listing: Listing,
     k: u8,
     starts: &[u16],
     ends: &[u16],
@@ -35,16 +35,17 @@ fn divide(
     shares: &mut [Cost],
 ) -> Cost
     requires { let t = sheet_tables starts.now ends.now weights.now landings.now in
-        (SomePlan file.now count k t marks.now × (length shares.old ≡ k)) }
-    ensures { let t = sheet_tables starts.now ends.now weights.now landings.now in
-        ((G : Graph) (root : _) → PlanReady G root file.now count k t marks.now
-        → Divided G root file.now count shares.new result) }
+        (SomePlan listing.file.now listing.count k t marks.now × (length shares.old ≡ k)) }
+    ensures { let l = listing.entry in
+        (let t = sheet_tables starts.now ends.now weights.now landings.now in
+        ((G : Graph) (root : _) → PlanReady G root l.file.now l.count k t marks.now
+        → Divided G root l.file.now l.count shares.new result)) }
 {
     let mut parents = [NO_PARENT; MAX_NODES];
     let mut served = [0u16; MAX_NODES];
-    set_parents(file, count, starts, ends, &mut parents);
+    set_parents(listing, starts, ends, &mut parents);
     serve(&parents, marks, landings, k, &mut served);
-    split_listed(file, count, ends, weights, &served, shares)
+    split_listed(listing, ends, weights, &served, shares)
 }
 
 // A file, against the tables that hold a sheet with n sites, k stations and so many legs.
@@ -67,33 +68,25 @@ pub fn share_file(
         × ((marks.new ≡ marks_after G file.now marks.old)
         × (shares.new ≡ shares_after G file.now shares.old))) }
 {
-    let answer = read_file(file, n, k, arcs, starts, ends, weights, landings, marks);
-    match answer {
-        Answer::Refused(refusal) => Sharing::Refused(refusal),
-        Answer::Plan {
-            root,
-            total,
-            arcs: count,
-        } => {
-            let nodes = n as usize;
-            let terminals = k as usize;
-            let unassigned = divide(
-                file,
-                count,
-                k,
-                starts,
-                ends,
-                weights,
-                landings,
-                &marks[..nodes],
-                &mut shares[..terminals],
-            );
-            Sharing::Shared {
-                root,
-                total,
-                arcs: count,
-                unassigned: unassigned as u64,
-            }
-        }
-    }
+    let plan = read_file(file, n, k, arcs, starts, ends, weights, landings, marks)?;
+    let listing = Listing {
+        file,
+        count: plan.arcs,
+    };
+    let nodes = n as usize;
+    let terminals = k as usize;
+    let unassigned = divide(
+        listing,
+        k,
+        starts,
+        ends,
+        weights,
+        landings,
+        &marks[..nodes],
+        &mut shares[..terminals],
+    );
+    Ok(Shared {
+        plan,
+        unassigned: u64::from(unassigned),
+    })
 }

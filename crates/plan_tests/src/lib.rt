@@ -3,38 +3,24 @@
 
 ghost use Rattle.std.specs.Prelude.{◌≡◌, ◌≤◌, ◌<◌, cond, eqb, length};
 ghost use Rattle.limits.specs.Limits.{max_terminals};
-ghost use Rattle.lists.specs.Count.{bit};
 ghost use Rattle.subset.specs.Sets.{empty};
 ghost use Rattle.landing_entries.specs.Entries.{terminals_in};
-ghost use Rattle.planfile.specs.Format.{file_size};
 ghost use Rattle.answer.specs.Stated.{stated};
 ghost use Rattle.plan_tests.specs.PlanFaults.{answered_as};
 ghost use Rattle.plan_tests.specs.ByMarks.{ArcsBelow, marked_count, marked_terminals, weight_sum, judged_fault};
 
-use answer::{Answer, PlanFault, Refusal};
+use answer::{Answer, Plan, PlanFault};
 use landing_entries::{is_sender, terminals_in};
-use planfile::fields::arc_at;
+use planfile::fields::Listing;
 use subset::Subset;
-
-// 1 for the mark of a reached site, else 0.
-fn one_if(mark: u8) -> usize
-    ensures { result ≡ bit (eqb mark 1) }
-{
-    if mark == 1 {
-        return 1;
-    }
-    0
-}
 
 // How many sites are marked.
 fn marked_count(marks: &[u8]) -> usize
     ensures { result ≡ marked_count marks.now }
 {
     let mut count = 0;
-    let mut v = 0;
-    while v < marks.len() {
-        count += one_if(marks[v]);
-        v += 1;
+    for mark in marks {
+        count += usize::from(*mark == 1);
     }
     count
 }
@@ -55,26 +41,20 @@ fn marked_terminals(marks: &[u8], landings: &[u16]) -> Subset
     ensures { result.0 ≡ marked_terminals marks.now landings.now }
 {
     let mut terminals = Subset::EMPTY;
-    let mut v = 0;
-    while v < marks.len() {
-        terminals = terminals.union(terminals_if(marks[v], landings[v]));
-        v += 1;
+    for (v, mark) in marks.iter().enumerate() {
+        terminals = terminals.union(terminals_if(*mark, landings[v]));
     }
     terminals
 }
 
 // The sum of the listed legs' prices.
-fn weight_sum(file: &[u8], count: u16, weights: &[u32]) -> u64
-    requires { (file_size count ≤ length file.now) × ArcsBelow file.now count (length weights.now) }
-    ensures { result ≡ weight_sum file.now count weights.now }
+fn weight_sum(listing: Listing, weights: &[u32]) -> u64
+    requires { ArcsBelow listing.file.now listing.count (length weights.now) }
+    ensures { let l = listing.entry in (result ≡ weight_sum l.file.now l.count weights.now) }
 {
-    let listed = count as usize;
     let mut sum = 0u64;
-    let mut i = 0;
-    while i < listed {
-        let e = arc_at(file, i) as usize;
-        sum += weights[e] as u64;
-        i += 1;
+    for i in 0..listing.count {
+        sum += u64::from(weights[listing.arc(i)]);
     }
     sum
 }
@@ -82,38 +62,38 @@ fn weight_sum(file: &[u8], count: u16, weights: &[u32]) -> u64
 // 17, 20, 18 and 19, in this order. The legs are a tree exactly where they reach one site more than there are legs, and a tree holds the sites
 // that it reaches.
 pub fn test_plan(
-    file: &[u8],
+    listing: Listing,
     root: u16,
     total: u32,
-    count: u16,
     k: u8,
     weights: &[u32],
     landings: &[u16],
     marks: &[u8],
 ) -> Answer
-    requires { (file_size count ≤ length file.now) × ArcsBelow file.now count (length weights.now)
+    requires { ArcsBelow listing.file.now listing.count (length weights.now)
         × (root < length marks.now) × (length marks.now ≤ length landings.now) × (k ≤ max_terminals) }
-    ensures { stated result
-        ≡ answered_as (judged_fault file.now root total count k weights.now landings.now marks.now)
-        root total count }
+    ensures { let l = listing.entry in (stated result
+        ≡ answered_as (judged_fault l.file.now root total l.count k weights.now landings.now marks.now)
+        root total l.count) }
 {
-    if marked_count(marks) != (count as usize) + 1 {
-        return Answer::Refused(Refusal::PlanFile(PlanFault::NoTree));
+    if marked_count(marks) != usize::from(listing.count) + 1 {
+        return Err(PlanFault::NoTree.into());
     }
     let node = root as usize;
     if !is_sender(landings[node]) {
-        return Answer::Refused(Refusal::PlanFile(PlanFault::NotASender));
+        return Err(PlanFault::NotASender.into());
     }
     let held = marked_terminals(marks, landings);
     if !Subset::full(k).is_part_of(held) {
-        return Answer::Refused(Refusal::PlanFile(PlanFault::StationMissed));
+        return Err(PlanFault::StationMissed.into());
     }
-    if total as u64 != weight_sum(file, count, weights) {
-        return Answer::Refused(Refusal::PlanFile(PlanFault::FalseTotal));
+    let total = u64::from(total);
+    if total != weight_sum(listing, weights) {
+        return Err(PlanFault::FalseTotal.into());
     }
-    Answer::Plan {
+    Ok(Plan {
         root,
-        total: total as u64,
-        arcs: count,
-    }
+        total,
+        arcs: listing.count,
+    })
 }

@@ -1,6 +1,7 @@
 // The fields of a plan file: root, total, leg count, and the mark and the leg number of each record.
-ghost use Rattle.std.specs.Prelude.{◌≡◌, ◌+◌, ◌≤◌, length};
-ghost use Rattle.planfile.specs.Format.{file_size, root_in, total_in, count_in, mark_at, listed_arc};
+ghost use Rattle.std.specs.Prelude.{◌≡◌, ◌+◌, ◌≤◌, ◌<◌, T, length};
+ghost use Rattle.lists.specs.Listed.{listed};
+ghost use Rattle.planfile.specs.Format.{file_size, root_in, total_in, count_in, mark_at, listed_arc, arcs_to};
 
 use number_fields::{u16_at, u32_at};
 
@@ -54,4 +55,24 @@ pub fn arc_at(file: &[u8], i: usize) -> u16
     ensures { result ≡ listed_arc file.now i }
 {
     u16_at(file, HEAD_SIZE + ARC_SIZE * i + 2)
+}
+
+// The legs that a file lists: it has at least so many records.
+#[derive(Clone, Copy)]
+pub struct Listing<'a> {
+    pub file: &'a [u8],
+    pub count: u16,
+    ghost whole: { file_size count ≤ length file.now },
+}
+
+impl<'a> Listing<'a> {
+    // The number of a leg that is listed, that of record i.
+    #[tactic(auto, using(crate::proofs::laws::ListedLaws::arc_listed))]
+    pub fn arc(self, i: u16) -> usize
+        requires { i < self.count }
+        ensures number { result ≡ listed_arc self.entry.file.now i }
+        ensures on { T (listed result (arcs_to self.entry.file.now self.entry.count)) }
+    {
+        arc_at(self.file, i as usize) as usize
+    }
 }

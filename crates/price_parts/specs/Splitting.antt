@@ -6,7 +6,7 @@ use Rattle.limits.specs.Limits.{max_terminals, no_cost}
 use Rattle.lists.specs.Count.{bit}
 use Rattle.lists.specs.Sums.{sum_to}
 use Rattle.subset.specs.Sets.{has}
-use Rattle.planfile.specs.Format.{file_size, listed_arc}
+use Rattle.planfile.specs.Format.{listed_arc}
 use Rattle.plan_shares.specs.Shares.{payers_to, part_of, unpaid_of}
 
 -- ---- one station's part
@@ -69,7 +69,6 @@ set_at file ends served j = get_or served (get_or ends (listed_arc file j) 0) 0
 
 -- the first records' arcs are in the tables, the sets are sets of k terminals, and the weights together are a cost
 pub record ListedReady (file : List ℕ) (count : ℕ) (ends weights served : List ℕ) (k : ℕ) : Type 0 where
-  pub whole : file_size count ≤ length file
   pub few : k ≤ max_terminals
   pub in_ends : (j : ℕ) → j < count → listed_arc file j < length ends
   pub in_weights : (j : ℕ) → j < count → listed_arc file j < length weights

@@ -1,7 +1,7 @@
 // Prices split over stations (document 02, W-204): one price over a set of stations, and the prices of the listed legs one after the other.
 #![tactic(auto)]
 
-ghost use Rattle.std.specs.Prelude.{◌≡◌, ◌+◌, ◌^◌, ◌≤◌, ◌<◌, length, get_or, replicate};
+ghost use Rattle.std.specs.Prelude.{◌≡◌, ◌+◌, ◌^◌, ◌≤◌, ◌<◌, length, get_or};
 ghost use Rattle.limits.specs.Limits.{max_terminals, no_cost};
 ghost use Rattle.price_parts.specs.Splitting.{
   payer_part,
@@ -16,7 +16,7 @@ ghost use Rattle.price_parts.specs.Splitting.{
 };
 
 use limits::Cost;
-use planfile::fields::arc_at;
+use planfile::fields::Listing;
 use subset::Subset;
 
 // What a payer pays: the quotient, and one cent more where fewer payers than the remainder says are lower stations.
@@ -62,23 +62,10 @@ fn split_price(price: Cost, payers: Subset, shares: &mut [Cost]) -> Cost
     let quotient = price / m;
     let remainder = price % m;
     let mut lower = 0;
-    let mut i = 0;
-    while i < shares.len() {
+    for i in 0..shares.len() {
         lower = pay(payers, i, quotient, remainder, lower, shares);
-        i += 1;
     }
     0
-}
-
-// Each share is 0.
-fn clear(shares: &mut [Cost])
-    ensures { shares.new ≡ replicate (length shares.old) 0 }
-{
-    let mut i = 0;
-    while i < shares.len() {
-        shares[i] = 0;
-        i += 1;
-    }
 }
 
 // Leg e's price, split over the stations that `served` has for the leg's end. What nobody pays of it.
@@ -95,25 +82,20 @@ fn split_arc(e: usize, ends: &[u16], weights: &[u32], served: &[u16], shares: &m
 // The prices of the listed legs, each split over the stations that `served` has for the leg's end: the shares, one entry a station, whatever they
 // held. What nobody pays.
 pub fn split_listed(
-    file: &[u8],
-    count: u16,
+    listing: Listing,
     ends: &[u16],
     weights: &[u32],
     served: &[u16],
     shares: &mut [Cost],
 ) -> Cost
-    requires { ListedReady file.now count ends.now weights.now served.now (length shares.old) }
-    ensures { ListedSplit file.now count ends.now weights.now served.now (length shares.old)
-        shares.new result }
+    requires { ListedReady listing.file.now listing.count ends.now weights.now served.now (length shares.old) }
+    ensures { let l = listing.entry in (ListedSplit l.file.now l.count ends.now weights.now served.now (length shares.old)
+        shares.new result) }
 {
-    clear(shares);
-    let listed = count as usize;
+    shares.fill(0);
     let mut unpaid = 0;
-    let mut i = 0;
-    while i < listed {
-        let e = arc_at(file, i) as usize;
-        unpaid += split_arc(e, ends, weights, served, shares);
-        i += 1;
+    for i in 0..listing.count {
+        unpaid += split_arc(listing.arc(i), ends, weights, served, shares);
     }
     unpaid
 }

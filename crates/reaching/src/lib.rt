@@ -5,35 +5,25 @@
 
 mod passes;
 
-ghost use Rattle.std.specs.Prelude.{◌≡◌, ◌≤◌, ◌<◌, length, replicate};
+ghost use Rattle.std.specs.Prelude.{◌≡◌, ◌≤◌, ◌<◌, length};
 ghost use Rattle.limits.specs.Limits.{max_nodes, max_arcs};
-ghost use Rattle.planfile.specs.Format.{file_size, arcs_to};
+ghost use Rattle.planfile.specs.Listed.{arcs_of};
 ghost use Rattle.marking.specs.Links.{link_graph, Within, Below};
 ghost use Rattle.reaching.specs.Marks.{marks_of};
 
 use crate::passes::mark_all;
 use arc_rows::mark_rows;
-
-// No site is marked.
-fn clear(marks: &mut [u8])
-    ensures { marks.new ≡ replicate (length marks.old) 0 }
-{
-    let mut v = 0;
-    while v < marks.len() {
-        marks[v] = 0;
-        v += 1;
-    }
-}
+use planfile::fields::Listing;
 
 // The marks of all sites: the slice has one entry for each.
-pub fn reach(file: &[u8], count: u16, root: u16, starts: &[u16], ends: &[u16], marks: &mut [u8])
-    requires { (root < length marks.old) × (length marks.old ≤ max_nodes) × (file_size count ≤ length file.now)
-        × Within (length marks.old) (arcs_to file.now count) starts.now ends.now × Below max_arcs (arcs_to file.now count) }
+pub fn reach(listing: Listing, root: u16, starts: &[u16], ends: &[u16], marks: &mut [u8])
+    requires { (root < length marks.old) × (length marks.old ≤ max_nodes)
+        × Within (length marks.old) (arcs_of listing) starts.now ends.now × Below max_arcs (arcs_of listing) }
     ensures { marks.new
-        ≡ marks_of (link_graph (length marks.old) starts.now ends.now) (arcs_to file.now count) root }
+        ≡ marks_of (link_graph (length marks.old) starts.now ends.now) (arcs_of listing.entry) root }
 {
-    clear(marks);
+    marks.fill(0);
     marks[root as usize] = 1;
-    mark_rows(file, count, root, starts, ends, marks);
-    mark_all(file, count, starts, ends, marks);
+    mark_rows(listing, root, starts, ends, marks);
+    mark_all(listing, starts, ends, marks);
 }

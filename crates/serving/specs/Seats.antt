@@ -1,16 +1,17 @@
 -- The seat of a terminal by the marks and the landing entries: the lowest marked node where it is heard. The terminals that sit at or below each node,
 -- as a table of sets.
 -- Assumes nothing.
-use Rattle.std.specs.Prelude.{ℕ, ◌<◌, ◌≡◌, Bool, false, cond, ◌&&◌, ◌||◌, List, eqb, ltb, length, get_or}
+use Rattle.std.specs.Prelude.{Some, None, ℕ, ◌<◌, ◌≡◌, Bool, false, ◌&&◌, ◌||◌, List, eqb, ltb, length, get_or}
 use Rattle.std.proofs.Math.Option.{Option, none, some}
 use Rattle.lists.specs.Find.{first}
 use Rattle.subset.specs.Sets.{has}
 use Rattle.landing_entries.specs.Entries.{terminals_in}
 use Rattle.serving.specs.Parents.{Ways}
 
--- a number below n that was found, or none
-abbrev pub found_at : (v n : ℕ) → Option ℕ
-found_at v n = cond (ltb v n) (some v) none
+-- a number that was found in code, or none
+abbrev pub found_at : Rattle.std.specs.Prelude.Option ℕ → Option ℕ
+found_at (Some v) = some v
+found_at None = none
 
 -- node v is marked, and terminal i is heard there
 abbrev pub may_seat : (marks landings : List ℕ) (i v : ℕ) → Bool

@@ -1,5 +1,5 @@
 // The seats of the stations, and the stations that sit at or below each site.
-ghost use Rattle.std.specs.Prelude.{◌≡◌, ◌≤◌, ◌<◌, ◌&&◌, eqb, length};
+ghost use Rattle.std.specs.Prelude.{◌≡◌, ◌≤◌, ◌<◌, ◌&&◌, eqb, length, IfSome};
 ghost use Rattle.limits.specs.Limits.{max_terminals};
 ghost use Rattle.subset.specs.Sets.{has};
 ghost use Rattle.landing_entries.specs.Entries.{terminals_in};
@@ -21,19 +21,18 @@ fn may_seat(mark: u8, entry: u16, i: u8) -> bool
     terminals_in(entry).has(i)
 }
 
-// The seat of station i: the lowest marked site where it can be heard, or the number of sites where there is none.
-fn seat_of(marks: &[u8], landings: &[u16], i: u8) -> usize
+// The seat of station i: the lowest marked site where it can be heard.
+fn seat_of(marks: &[u8], landings: &[u16], i: u8) -> Option<usize>
     requires { (i < max_terminals) × (length marks.now ≤ length landings.now) }
-    ensures { found_at result (length marks.now) ≡ seat_in marks.now landings.now i }
+    ensures lowest { found_at result ≡ seat_in marks.now landings.now i }
+    ensures on { IfSome result (λ v. v < length marks.now) }
 {
-    let mut v = 0;
-    while v < marks.len() {
-        if may_seat(marks[v], landings[v], i) {
-            return v;
+    for (v, mark) in marks.iter().enumerate() {
+        if may_seat(*mark, landings[v], i) {
+            return Some(v);
         }
-        v += 1;
     }
-    v
+    None
 }
 
 // Station i is entered at its seat and at each site above it.
@@ -42,8 +41,7 @@ fn enter_terminal(parents: &[u16], marks: &[u8], landings: &[u16], i: u8, served
         × (length marks.now ≤ length parents.now) × (length parents.now ≤ length served.old) }
     ensures { TerminalEntered parents.now marks.now landings.now i served.old served.new }
 {
-    let seat = seat_of(marks, landings, i);
-    if seat < marks.len() {
+    if let Some(seat) = seat_of(marks, landings, i) {
         enter_above(parents, seat, Subset::single(i), served);
     }
 }
@@ -54,9 +52,7 @@ pub fn serve(parents: &[u16], marks: &[u8], landings: &[u16], k: u8, served: &mu
         × (length marks.now ≤ length parents.now) × (length parents.now ≤ length served.old) × NoneServed served.old }
     ensures { Served parents.now marks.now landings.now k served.new }
 {
-    let mut i = 0;
-    while i < k {
+    for i in 0..k {
         enter_terminal(parents, marks, landings, i, served);
-        i += 1;
     }
 }

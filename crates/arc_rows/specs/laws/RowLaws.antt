@@ -5,7 +5,6 @@ use Rattle.std.proofs.Common.{sym, ap, subst, arith, length-set, get_or-set_same
 use Rattle.std.proofs.Math.Decide.{ℕ_discrete}
 use Rattle.std.proofs.lemmas.List.{length-replicate, get_or-replicate}
 use Rattle.lists.specs.Listed.{listed}
-use Rattle.planfile.specs.Format.{arcs_to}
 use Rattle.marking.specs.Links.{link_graph, Within}
 use Rattle.marking.specs.Marking.{ArcMarks}
 use Rattle.marking.specs.laws.MarkingLaws.{carried_none, carried_then, carried_arc}
@@ -86,11 +85,11 @@ module _ (L starts ends before : List ℕ) where
   }
 
 -- the next row is ready
-pub row_again : (file : List ℕ) (count : ℕ) (starts ends next before marks queue : List ℕ) (tail : ℕ)
-    → RowMarked (link_graph (length before) starts ends) (arcs_to file count) before marks queue tail → RowsReady file count starts ends next (length before)
-    → RowsReady file count starts ends next (length marks) × AllBelow (length marks) queue × (tail ≤ length queue)
-row_again file count starts ends next before marks queue tail row ready = (
-  subst (RowsReady file count starts ends next) (sym row.carried.size) ready,
+pub row_again : (L starts ends next before marks queue : List ℕ) (tail : ℕ)
+    → RowMarked (link_graph (length before) starts ends) L before marks queue tail → RowsReady L starts ends next (length before)
+    → RowsReady L starts ends next (length marks) × AllBelow (length marks) queue × (tail ≤ length queue)
+row_again L starts ends next before marks queue tail row ready = (
+  subst (RowsReady L starts ends next) (sym row.carried.size) ready,
   subst (λ (n : ℕ). AllBelow n queue) (sym row.carried.size) row.nodes,
   row.fits,
 )

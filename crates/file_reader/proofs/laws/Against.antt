@@ -1,6 +1,6 @@
 -- A file read against the tables that hold a sheet: the marks and the tests that the code makes are those of the graph that the tables hold.
 -- Assumes nothing.
-use Rattle.std.specs.Prelude.{ℕ, ◌+◌, ◌<◌, ◌≡◌, refl, Bool, true, false, T, eqb, length, get_or, take}
+use Rattle.std.specs.Prelude.{Ok, Err, ℕ, ◌+◌, ◌<◌, ◌≡◌, refl, Bool, true, false, T, eqb, length, get_or, take}
 use Rattle.std.proofs.Math.Path.{sym, ap, ap₂}
 use Rattle.std.proofs.Common.{◌∙◌, subst, arith, length-take}
 use Rattle.std.proofs.Math.Option.{Option, some}
@@ -25,7 +25,7 @@ use Rattle.network.specs.HeldSheet.{HeldSheet}
 use Rattle.planfile.specs.Format.{file_size, root_in, listed_arc, arcs_to, arcs_in}
 use Rattle.file_tests.specs.FileFaults.{file_fault, or_else}
 use Rattle.file_tests.specs.Tested.{opened_of}
-use Rattle.file_tests.specs.declared.Opened.TheVariants.{Fields, Fault}
+use Rattle.file_tests.specs.declared.Head.{Head}
 use Rattle.file_tests.proofs.laws.Faults.{FileOk, file_passed, listed_on}
 use Rattle.file_tests.proofs.laws.Returned.{FieldsOf, opened_fields, opened_fault}
 use Rattle.marking.specs.Links.{link_graph, Within}
@@ -45,16 +45,25 @@ module _ (n k m : ℕ) (t : SheetTables) (marks file : List ℕ) (ready : HeldSh
   part_size = omega (arith, length-take n marks, ready.long.further.marks)
 
   -- a fault of the file by itself
-  pub fault_read : (f : PlanFault) → Fault f ≡ opened_of n m file → (stated_plan_file f ≡ answer_to G file) × (marks ≡ marks_after G file marks)
+  pub fault_read : (f : PlanFault) → Err f ≡ opened_of n m file → (stated_plan_file f ≡ answer_to G file) × (marks ≡ marks_after G file marks)
   fault_read f e =
       let q : file_fault n m file ≡ some f = opened_fault (file_fault n m file) file f e in (
         sym (ap (λ (o : Option PlanFault). answered (or_else o (tree_fault G file)) file) q),
         sym (ap (λ (o : Option PlanFault). marks_by o G file marks) q),
       )
 
-  module _ (root cost count : ℕ) (e : Fields root cost count ≡ opened_of n m file) where
+  module _ (head : Head) (e : Ok head ≡ opened_of n m file) where
+    abbrev root : ℕ
+    root = head.root
+
+    abbrev cost : ℕ
+    cost = head.total
+
+    abbrev count : ℕ
+    count = head.count
+
     fields : FieldsOf (file_fault n m file) file root cost count
-    fields = opened_fields (file_fault n m file) file root cost count e
+    fields = opened_fields (file_fault n m file) file head e
 
     ok : FileOk n m file
     ok = file_passed n m file fields.no_fault

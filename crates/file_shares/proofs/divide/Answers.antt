@@ -9,12 +9,18 @@ use Rattle.file_shares.proofs.divide.Goals as goal
 pub set_parents-requires : goal.set_parents-requires
 set_parents-requires c =
     let ready = c.requires.0.ready in
-    (ready.whole, plan_within ready, no_parents 1024, omega arith)
+    (plan_within ready, no_parents 1024, omega arith)
 
 pub serve-requires : goal.serve-requires
 serve-requires c =
-    let ready = c.requires.0.ready in
-    (plan_ways ready _ c.set_parents.auto.parents c.set_parents.ensures, ready.few_terminals, ready.landed, omega (arith, ready.few_nodes, c.set_parents.auto.parents), omega (arith, c.set_parents.auto.parents), none_served 1024)
+    let ready = c.requires.0.ready in (
+      plan_ways ready _ c.set_parents.auto.parents c.set_parents.ensures,
+      ready.few_terminals,
+      ready.landed,
+      omega (arith, ready.few_nodes, c.set_parents.auto.parents),
+      omega (arith, c.set_parents.auto.parents),
+      none_served 1024,
+    )
 
 pub split_listed-requires : goal.split_listed-requires
 split_listed-requires c =

@@ -75,7 +75,6 @@ module _ {G : Graph} {root : ℕ} {file : List ℕ} {count k : ℕ} {t : SheetTa
   -- what the splitting asks for, with a table of n shares
   pub listed_ready : {n : ℕ} → n ≡ k → ListedReady file count t.ends t.weights served n
   listed_ready same = subst (ListedReady file count t.ends t.weights served) (sym same) record {
-    whole = ready.whole;
     few = ready.few_terminals;
     in_ends = λ j l. (ready.held (listed_arc file j) (is_listed j l)).in_ends;
     in_weights = λ j l. (ready.held (listed_arc file j) (is_listed j l)).in_weights;

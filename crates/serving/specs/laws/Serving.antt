@@ -1,7 +1,7 @@
 -- Terminals entered one after the other: a terminal without a seat is entered nowhere, and after terminal i the table has the first i + 1 terminals.
 -- Assumes nothing.
-use Rattle.std.specs.Prelude.{ℕ, suc, ◌+◌, ◌≤◌, ◌<◌, ◌≡◌, refl, Bool, true, false, cond, ◌&&◌, ◌||◌, List, eqb, ltb, length, get_or, replicate}
-use Rattle.std.proofs.Common.{sym, ap, ap₂, ◌∙◌, subst, add-one, arith, eq-eqb, ne_eqb, lt-ltb, le-ltb}
+use Rattle.std.specs.Prelude.{Some, None, ℕ, suc, ◌+◌, ◌<◌, ◌≡◌, refl, Bool, true, false, ◌&&◌, ◌||◌, List, eqb, ltb, length, get_or, replicate}
+use Rattle.std.proofs.Common.{sym, ap, ap₂, ◌∙◌, subst, add-one, arith, eq-eqb, ne_eqb, le-ltb}
 use Rattle.std.proofs.Math.Option.{Option, none, some}
 use Rattle.std.proofs.Math.Decide.{ℕ_discrete}
 use Rattle.std.proofs.lemmas.List.{length-replicate, get_or-replicate}
@@ -24,25 +24,14 @@ none_served n u l = get_or-replicate n u 0 0 (subst (λ (m : ℕ). u < m) (lengt
 
 -- ---- the seat that a search finds
 
-module _ (f : ℕ → Bool) (n v : ℕ) where
+module _ (f : ℕ → Bool) (n : ℕ) where
   -- it stops at the first number that passes
-  pub found_first : v < n → f v ≡ true → ((j : ℕ) → j < v → f j ≡ false) → found_at v n ≡ first f n
-  found_first l t before =
-      ap (λ (b : Bool). cond b (some v) none) (lt-ltb v n l)
-      ∙ sym (first_found f n v l (true_fact t) (λ j s. false_not_fact (before j s)))
+  pub found_first : (v : ℕ) → v < n → f v ≡ true → ((j : ℕ) → j < v → f j ≡ false) → found_at (Some v) ≡ first f n
+  found_first v l t before = sym (first_found f n v l (true_fact t) (λ j s. false_not_fact (before j s)))
 
   -- or no number passes
-  pub found_none : n ≤ v → ((j : ℕ) → j < n → f j ≡ false) → found_at v n ≡ first f n
-  found_none l before =
-      ap (λ (b : Bool). cond b (some v) none) (le-ltb v n l) ∙ sym (first_none f n (λ j s. false_not_fact (before j s)))
-
--- what was found, by whether it is below n
-module _ {v n : ℕ} {o : Option ℕ} where
-  pub found_some : v < n → found_at v n ≡ o → some v ≡ o
-  found_some l e = sym (ap (λ (b : Bool). cond b (some v) none) (lt-ltb v n l)) ∙ e
-
-  pub found_nothing : n ≤ v → found_at v n ≡ o → none ≡ o
-  found_nothing l e = sym (ap (λ (b : Bool). cond b (some v) none) (le-ltb v n l)) ∙ e
+  pub found_none : ((j : ℕ) → j < n → f j ≡ false) → found_at None ≡ first f n
+  found_none before = sym (first_none f n (λ j s. false_not_fact (before j s)))
 
 -- where no number below v passes, and v does not, none below v + 1 passes
 pub none_before : (f : ℕ → Bool) (v : ℕ) → ((j : ℕ) → j < v → f j ≡ false) → f v ≡ false → (j : ℕ) → j < v + 1 → f j ≡ false

@@ -2,14 +2,14 @@
 -- nodes that are not marked.
 -- Assumes nothing.
 use Rattle.std.proofs.Common.{length}
-use Rattle.planfile.specs.Format.{arcs_to}
+use Rattle.planfile.specs.Listed.{arcs_of}
 use Rattle.marking.specs.Links.{link_graph}
 use Rattle.marking.specs.Marking.{Carried}
 use Rattle.reaching.specs.Passes.{unmarked}
 use Rattle.reaching.proofs.passes.mark_all.Given as goal
 
-abbrev pub invariant-loop-count : goal.invariant-loop-count
-invariant-loop-count l = Carried (link_graph (length l.initial.marks) l.starts l.ends) (arcs_to l.file l.count) l.initial.marks l.marks
+abbrev pub invariant-loop : goal.invariant-loop
+invariant-loop l = Carried (link_graph (length l.initial.marks) l.starts l.ends) (arcs_of l.listing) l.initial.marks l.marks
 
-abbrev pub decreases-loop-count : goal.decreases-loop-count
-decreases-loop-count l = unmarked (length l.initial.marks) l.marks
+abbrev pub decreases-loop : goal.decreases-loop
+decreases-loop l = unmarked (length l.initial.marks) l.marks
