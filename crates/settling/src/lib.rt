@@ -57,7 +57,13 @@ pub fn lower(lanes: &mut [Cost], u: usize, by: Four<Cost>)
 
 impl<'a> Legs<'a> {
     // The first entry of the index, from `from` up to `end`, whose leg gives its start less than that has, where the legs end at a site with these cells.
-    pub fn next_falling(self, here: Four<Cost>, from: usize, end: usize, lanes: &[Cost]) -> Option<usize>
+    pub fn next_falling(
+        self,
+        here: Four<Cost>,
+        from: usize,
+        end: usize,
+        lanes: &[Cost],
+    ) -> Option<usize>
         requires { FourLow here × EntriesOf self lanes.now from end }
         ensures { MatchOption result (NoLegFalls self.entry lanes.now here from end) (λ i. LegFalls self.entry lanes.now here from end i) }
     {

@@ -16,7 +16,13 @@ use settling::{Legs, along, lower};
 use turn_table::{NO_TURN, Round, enter, turn_key};
 
 // Each cell of site u that is above what a leg gives falls to it, and the site has a turn, which is given back.
-fn lower_in_turn(round: Round, u: usize, by: Four<Cost>, lanes: &mut [Cost], turns: &mut [u64]) -> u64
+fn lower_in_turn(
+    round: Round,
+    u: usize,
+    by: Four<Cost>,
+    lanes: &mut [Cost],
+    turns: &mut [u64],
+) -> u64
     requires { (length turns.old ≡ turn_entries) × (u < max_nodes) × (u * 4 + 4 ≤ length lanes.old) × AllLow lanes.old × FourSmall by }
     ensures { LoweredAt u by lanes.old lanes.new }
 {
@@ -28,13 +34,7 @@ fn lower_in_turn(round: Round, u: usize, by: Four<Cost>, lanes: &mut [Cost], tur
 
 // The legs that end at site v, by the index: where one gives less, the cells of its start fall. The soonest turn that a start has for it is given back, or
 // NO_TURN.
-pub fn visit(
-    legs: Legs,
-    round: Round,
-    v: usize,
-    lanes: &mut [Cost],
-    turns: &mut [u64],
-) -> u64
+pub fn visit(legs: Legs, round: Round, v: usize, lanes: &mut [Cost], turns: &mut [u64]) -> u64
     requires { (length turns.old ≡ turn_entries) × (v < legs.n) × SomeLegs legs lanes.old }
     ensures { LoweredByLegs legs.entry lanes.old lanes.new }
 {
