@@ -9,12 +9,12 @@ ghost use Rattle.planfile.specs.laws.FormatLaws.{Fits};
 ghost use Rattle.best_plan.specs.Plan.{plan_with, plan_of};
 ghost use Rattle.best_plan.specs.laws.Best.{SentBack, FinishedSheet, FiniteRoot};
 
-use answer::{Answer, Refusal, SearchFault, TableFault};
+use answer::{Answer, Plan, SearchFault, TableFault};
 use cost_table::cheapest::sender_cell;
 use layout::plan::lay_out;
 use layout::root::best_root;
 use limits::Cost;
-use planfile::write::{Written, write_plan};
+use planfile::write::{WriteFault, write_plan};
 use subset::Subset;
 
 // The most legs of a tree: one for each site but the root.
@@ -25,15 +25,14 @@ fn write_best(root: u16, total: u64, arcs: &[u16], buffer: &mut [u8]) -> Answer
     requires { Fits root total arcs.now }
     ensures { SentBack (some (plan_with root total arcs.now)) (stated result) buffer.old buffer.new }
 {
-    let written = write_plan(root, total, arcs, buffer);
-    match written {
-        Written::File(size) => Answer::Plan {
+    match write_plan(root, total, arcs, buffer) {
+        Ok(_) => Ok(Plan {
             root,
             total,
             arcs: arcs.len() as u16,
-        },
-        Written::ShortBuffer => Answer::Refused(Refusal::Tables(TableFault::ShortBuffer)),
-        Written::NoFile => Answer::Refused(Refusal::Tables(TableFault::ShortBuffer)),
+        }),
+        Err(WriteFault::ShortBuffer) => Err(TableFault::ShortBuffer.into()),
+        Err(WriteFault::NoFile) => unreachable!(),
     }
 }
 
@@ -69,7 +68,7 @@ fn lay_best(
         root,
         &mut listed,
     );
-    write_best(root, cost as u64, &listed[..count], buffer)
+    write_best(root, u64::from(cost), &listed[..count], buffer)
 }
 
 // The plan by the cells: none, where every sender's full-set cell is "none".
@@ -91,7 +90,7 @@ pub fn best_plan(
     let root = best_root(cells, landings, n, k);
     let cost = sender_cell(cells, landings, n, k, root, Subset::full(k));
     if cost == limits::NO_COST {
-        return Answer::Refused(Refusal::Search(SearchFault::NoPlan));
+        return Err(SearchFault::NoPlan.into());
     }
     lay_best(
         starts, ends, weights, landings, cells, n, k, arcs, root, cost, buffer,

@@ -1,7 +1,7 @@
 -- The plan as the code finds it: from the root and the cells of a finished cost table, and what is sent back of it with the plan buffer. The
 -- tables themselves stay as the search left them.
 -- Assumes nothing.
-use Rattle.std.specs.Prelude.{ℕ, ◌-◌, ◌*◌, ◌^◌, ◌≤◌, ◌<◌, ◌≡◌, refl, Bool, true, cond, leb, length, take, drop}
+use Rattle.std.specs.Prelude.{Result, Ok, Err, ℕ, ◌-◌, ◌*◌, ◌^◌, ◌≤◌, ◌<◌, ◌≡◌, refl, Bool, true, cond, leb, length, take, drop}
 use Rattle.std.proofs.Math.Path.{sym, ap, ap₂}
 use Rattle.std.proofs.Common.{◌∙◌, subst, arith, take_at}
 use Rattle.std.proofs.Math.Bool.{false}
@@ -33,8 +33,8 @@ use Rattle.planfile.specs.Format.{file_bytes, file_size}
 use Rattle.planfile.specs.laws.FormatLaws.{Fits}
 use Rattle.planfile.proofs.laws.FormatLaws.{fits_encoding, length_file}
 use Rattle.planfile.specs.Writing.{Writing, writing, written_over, writing_of}
-use Rattle.planfile.specs.declared.write.Written.{Written}
-use Rattle.planfile.specs.declared.write.Written.TheVariants.{File, ShortBuffer, NoFile}
+use Rattle.planfile.specs.declared.write.WriteFault.{WriteFault}
+use Rattle.planfile.specs.declared.write.WriteFault.TheVariants.{ShortBuffer, NoFile}
 use Rattle.layout_walk.specs.Plan.{laid}
 use Rattle.layout.specs.Root.{full_cell_in}
 use Rattle.layout.specs.laws.Roots.{lowest_root, lowest_none}
@@ -48,10 +48,10 @@ use Rattle.best_plan.specs.laws.Best.{SentBack, FinishedSheet, FiniteRoot}
 
 module _ (root total : ℕ) (arcs buffer : List ℕ) where
   -- what a writing gave, by number
-  abbrev kind_of : Written → ℕ
-  kind_of (File size) = 0
-  kind_of ShortBuffer = 1
-  kind_of NoFile = 2
+  abbrev kind_of : Result ℕ WriteFault → ℕ
+  kind_of (Ok size) = 0
+  kind_of (Err ShortBuffer) = 1
+  kind_of (Err NoFile) = 2
 
   abbrev kind : Writing → ℕ
   kind (writing w after) = kind_of w
@@ -59,19 +59,19 @@ module _ (root total : ℕ) (arcs buffer : List ℕ) where
   abbrev buffer_of : Writing → List ℕ
   buffer_of (writing w after) = after
 
-  module _ (f : Fits root total arcs) (w : Written) (after : List ℕ) (e : writing w after ≡ writing_of root total arcs buffer) where
+  module _ (f : Fits root total arcs) (w : Result ℕ WriteFault) (after : List ℕ) (e : writing w after ≡ writing_of root total arcs buffer) where
     -- by the test of the lengths
     by_length : (b : Bool) → leb (length (file_bytes root total arcs)) (length buffer) ≡ b
-        → writing w after ≡ cond b (writing (File (length (file_bytes root total arcs))) (over (file_bytes root total arcs) buffer)) (writing ShortBuffer buffer)
+        → writing w after ≡ cond b (writing (Ok (length (file_bytes root total arcs))) (over (file_bytes root total arcs) buffer)) (writing (Err ShortBuffer) buffer)
     by_length b q =
         e ∙ ap (λ (o : Option (List ℕ)). written_over o buffer) (fits_encoding root total arcs f)
-        ∙ ap (λ (c : Bool). cond c (writing (File (length (file_bytes root total arcs))) (over (file_bytes root total arcs) buffer))
-        (writing ShortBuffer buffer)) q
+        ∙ ap (λ (c : Bool). cond c (writing (Ok (length (file_bytes root total arcs))) (over (file_bytes root total arcs) buffer))
+        (writing (Err ShortBuffer) buffer)) q
 
     test_is : leb (file_size (length arcs)) (length buffer) ≡ leb (length (file_bytes root total arcs)) (length buffer)
     test_is = ap (λ (x : ℕ). leb x (length buffer)) (sym (length_file root total arcs))
 
-    pub sent_file : (size : ℕ) → w ≡ File size → SentBack (some (plan_with root total arcs)) (plan root total (length arcs)) buffer after
+    pub sent_file : (size : ℕ) → w ≡ Ok size → SentBack (some (plan_with root total arcs)) (plan root total (length arcs)) buffer after
     sent_file size is = record { sent = λ t. go t (leb (length (file_bytes root total arcs)) (length buffer)) refl }
       where
         go : (t : EngineTables) (b : Bool) → leb (length (file_bytes root total arcs)) (length buffer) ≡ b
@@ -82,7 +82,7 @@ module _ (root total : ℕ) (arcs buffer : List ℕ) where
             ∙ sym (ap (λ (c : Bool). written c (plan_with root total arcs) (with_buffer buffer t)) (test_is ∙ q))
         go t false q = let z : ◌≡◌ {A = ℕ} 0 1 = ap kind_of (sym is) ∙ ap kind (by_length false q) in absurd (omega arith)
 
-    pub sent_short : w ≡ ShortBuffer → SentBack (some (plan_with root total arcs)) (refused of_tables short_buffer 0) buffer after
+    pub sent_short : w ≡ Err ShortBuffer → SentBack (some (plan_with root total arcs)) (refused of_tables short_buffer 0) buffer after
     sent_short is = record { sent = λ t. go t (leb (length (file_bytes root total arcs)) (length buffer)) refl }
       where
         go : (t : EngineTables) (b : Bool) → leb (length (file_bytes root total arcs)) (length buffer) ≡ b
@@ -94,7 +94,7 @@ module _ (root total : ℕ) (arcs buffer : List ℕ) where
             ∙ sym (ap (λ (c : Bool). written c (plan_with root total arcs) (with_buffer buffer t)) (test_is ∙ q))
 
     -- every number of a plan fits
-    pub never_none : w ≡ NoFile → ⊥
+    pub never_none : w ≡ Err NoFile → ⊥
     never_none is = go (leb (length (file_bytes root total arcs)) (length buffer)) refl
       where
         go : (b : Bool) → leb (length (file_bytes root total arcs)) (length buffer) ≡ b → ⊥
