@@ -27,7 +27,8 @@ pub fn flag_unless_some(landings: &mut [u16], n: usize)
     requires { n ≤ length landings.old }
     ensures { landings.new ≡ flagged_unless_some n landings.old }
 {
-    if !has_sender(&landings[..n]) {
-        flag_all(landings, n);
+    if has_sender(&landings[..n]) {
+        return;
     }
+    flag_all(landings, n);
 }
