@@ -65,7 +65,7 @@ impl<'a> Legs<'a> {
         lanes: &[Cost],
     ) -> Option<usize>
         requires { FourLow here × EntriesOf self lanes.now from end }
-        ensures { MatchOption result (NoLegFalls self.entry lanes.now here from end) (λ i. LegFalls self.entry lanes.now here from end i) }
+        ensures { MatchOption result (NoLegFalls self.entry lanes.now here from end) (λ i. (i < end) × LegFalls self.entry lanes.now here from end i) }
     {
         for i in from..end {
             let e = self.index[i] as usize;

@@ -79,6 +79,14 @@ four_closed {n} {m} {size} {t} {w} {by_end} {places} {before} {after} {lanes} {t
 pub record NextFour (at : ℕ → ℕ) (p last : ℕ) (w : ℕ → ℕ) : Type 0 where
   pub each : (j : ℕ) → j < 4 → w j ≡ at (min (p + j) (last - 1))
 
+pub next_four : {at : ℕ → ℕ} {p last : ℕ} {four : Four ℕ} {r : Four ℕ} → p < last → four ≡ four_from p last
+    → (r.a ≡ at four.a) × (r.b ≡ at four.b) × (r.c ≡ at four.c) × (r.d ≡ at four.d) → NextFour at p last (nth r)
+next_four {at} {p} {last} {four} {r} l is (a, b, c, d) = record {
+  each = λ j s.
+      below_four (λ i. nth r i ≡ at (nth four i)) a b c d j s
+      ∙ ap at (ap (λ (f : Four ℕ). nth f j) is ∙ from_nth p last j l s);
+}
+
 -- the cells of each set at the positions from `first` up to p, and up to `last`, are closed over the arcs; the other cells stay
 pub record SetsClosed (n m size : ℕ) (t : SheetTables) (at : ℕ → ℕ) (first p last : ℕ) (before after : List ℕ) : Type 0 where
   pub same_length : length after ≡ length before

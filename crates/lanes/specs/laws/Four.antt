@@ -78,3 +78,9 @@ less_nth x y = below_four (λ j. nth (less_four x y) j ≡ min (nth x j) (nth y 
 pub from_nth : (first end j : ℕ) → first < end → j < 4 → nth (four_from first end) j ≡ min (first + j) (end - 1)
 from_nth first end j some =
     below_four (λ i. nth (four_from first end) i ≡ min (first + i) (end - 1)) (omega arith) refl refl refl j
+
+-- each of them is below `end`
+pub from_below : {first end : ℕ} {four : Four ℕ} → first < end → four ≡ four_from first end
+    → (four.a < end) × (four.b < end) × (four.c < end) × (four.d < end)
+from_below some is =
+    (omega (arith, ap (λ (f : Four ℕ). f.a) is), omega (arith, ap (λ (f : Four ℕ). f.b) is), omega (arith, ap (λ (f : Four ℕ). f.c) is), omega (arith, ap (λ (f : Four ℕ). f.d) is))

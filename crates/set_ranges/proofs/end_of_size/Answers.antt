@@ -4,11 +4,5 @@ use Rattle.std.proofs.Common.{arith, refl}
 use Rattle.set_ranges.specs.laws.Listed.{few_sets, size_end}
 use Rattle.set_ranges.proofs.end_of_size.Goals as goal
 
-pub overflow_cast-first : goal.overflow_cast-first
-overflow_cast-first c = omega (arith, c.requires.1, few_sets _ c.requires.0 refl)
-
-pub size_range-range-requires : goal.size_range-range-requires
-size_range-range-requires c = c.requires
-
 pub returns : goal.returns
 returns c = size_end c.size_range-range.ensures

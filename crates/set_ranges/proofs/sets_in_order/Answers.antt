@@ -11,15 +11,6 @@ slice_bounds-sizes-end c = few_sets _ c.requires.0 c.sets_of-count.ensures
 pub slice_bounds-put_sizes-end : goal.slice_bounds-put_sizes-end
 slice_bounds-put_sizes-end c = sym (length-take-le _ _ (few_sets _ c.requires.0 c.sets_of-count.ensures))
 
-pub put_sizes-requires : goal.put_sizes-requires
-put_sizes-requires c = few_sizes _ _ _ c.requires.0 c.sets_of-count.ensures refl
-
-pub slice_bounds-index_arcs-end : goal.slice_bounds-index_arcs-end
-slice_bounds-index_arcs-end c = sym (relent_length _ _ c.put_sizes.new.sizes c.put_sizes.auto.sizes refl (few_sets _ c.requires.0 c.sets_of-count.ensures))
-
-pub overflow_cast-count : goal.overflow_cast-count
-overflow_cast-count c = omega (arith, few_sets _ c.requires.0 c.sets_of-count.ensures)
-
 pub index_arcs-requires : goal.index_arcs-requires
 index_arcs-requires c =
     index_asked _ _ _ _ c.args.sets.now c.requires.0 c.sets_of-count.ensures refl c.put_sizes.auto.sizes c.put_sizes.ensures c.requires.1

@@ -62,6 +62,9 @@ along_arc end weight {e} {v} {x} {here} {by} {lanes} was is w ends = record {
 }
 
 -- the first arc that gives less is an arc
+pub is_arc : {m r : ℕ} {start end weight : ℕ → ℕ} {lanes : List ℕ} → FirstOpen m start end weight lanes r → r ≢ m → r < m
+is_arc F ne = omega (arith, F.bound)
+
 -- ---- lowered
 
 module _ {m : ℕ} {start end weight : ℕ → ℕ} where

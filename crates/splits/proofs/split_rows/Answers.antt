@@ -1,7 +1,7 @@
 -- `splits::split_rows` meets its contract.
 -- Assumes nothing.
 use Rattle.std.proofs.Common.{◌-◌, ◌∙◌, arith}
-use Rattle.splits.specs.laws.SplitRows.{to_skip, next_rows, to_next}
+use Rattle.splits.specs.laws.SplitRows.{to_skip, next_rows, to_after}
 use Rattle.splits.proofs.split_rows.Goals as goal
 
 pub loop-v-smaller : goal.loop-v-smaller
@@ -26,7 +26,7 @@ loop-v-preserved c =
     let four = c.four_finite-four.ensures in
     let p = c.requires in
     let so_far = to_skip p.0 p.1 c.loop-v.invariant.2 c.in-Some.ensures.1 in
-    (omega (arith, four.within), c.split_four.auto.by_set ∙ c.loop-v.invariant.1, to_next p.0 p.1 p.5 so_far four c.split_four.ensures)
+    (omega (arith, four.within), c.split_four.auto.by_set ∙ c.loop-v.invariant.1, to_after p.0 p.1 p.5 so_far four c.split_four.ensures)
 
 pub returns : goal.returns
 returns c = let p = c.requires in to_skip p.0 p.1 c.loop-v.invariant.2 c.in_default.ensures

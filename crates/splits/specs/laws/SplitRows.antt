@@ -50,6 +50,14 @@ pub record FourSplit (at : ℕ → ℕ) (first last size : ℕ) (r : ℕ → ℕ
   pub others : (u y : ℕ) → y < size → ((j : ℕ) → j < 4 → r j ≢ u) → cell_in after size u y ≡ cell_in before size u y
 
 module _ {at : ℕ → ℕ} {first size : ℕ} {r : ℕ → ℕ} {before : List ℕ} where
+  pub four_none : FourSplit at first first size r before before
+  four_none = record {
+    same_length = refl;
+    low = λ i. omega arith;
+    rows = λ j s. record { others = λ w small out. refl; each = λ i a b. absurd (omega arith) };
+    others = λ u y small none. refl;
+  }
+
   -- what is asked on the way
   pub still_rows : {p : ℕ} {mid : List ℕ} → Rows before size r → FourSplit at first p size r before mid → Rows mid size r
   still_rows B S = record {
@@ -132,6 +140,14 @@ split_none {at} {m} {f = f} O bound none = record {
 }
 
 module _ {at : ℕ → ℕ} {m first last n size : ℕ} {before : List ℕ} (O : Ordered at m size) (R : OneSize at m first last) where
+  pub to_first : {v : ℕ} → NoneBetween (cell_in before size) size n 0 v → SplitTo at first last n size v before before
+  to_first D = record {
+    same_length = refl;
+    low = λ i. omega arith;
+    done = λ u l on. split_none O R.bound (D.none u (omega arith) l);
+    left = λ u y l lu small. refl;
+  }
+
   -- nodes without a finite terminal are passed over
   pub to_skip : {from v : ℕ} {mid : List ℕ} → SplitTo at first last n size from before mid → NoneBetween (cell_in mid size) size n from v
       → SplitTo at first last n size v before mid
@@ -158,8 +174,9 @@ module _ {at : ℕ → ℕ} {m first last n size : ℕ} {before : List ℕ} (O :
       low = λ i l. omega (arith, S.low i, low i (omega (arith, S.same_length)));
     }
 
-    pub to_next : {after : List ℕ} → FourSplit at first last size r mid after → SplitTo at first last n size (r 3 + 1) before after
-    to_next {after} F = record {
+    -- the nodes up to the last of the four
+    pub to_after : {after : List ℕ} → FourSplit at first last size r mid after → SplitTo at first last n size (r 3 + 1) before after
+    to_after {after} F = record {
       same_length = F.same_length ∙ S.same_length;
       low = λ i. omega (arith, F.low i, S.low i);
       done = λ u l lu. go u l lu (dec_lt u v) (lane_or_none r u);
@@ -184,3 +201,17 @@ module _ {at : ℕ → ℕ} {m first last n size : ℕ} {before : List ℕ} (O :
         go u l lu (no b) (inr k) =
             unsplit u (omega arith) lu k
             (λ i small. omega (arith, L.none u (omega arith) (omega arith) k.none i small, S.left u (single i) (omega arith) lu small))
+
+    -- and those up to the next node with a finite terminal
+    pub to_next : {v' : ℕ} {after : List ℕ} → FourSplit at first last size r mid after → NoneBetween (cell_in after size) size n (r 3 + 1) v'
+        → SplitTo at first last n size v' before after
+    to_next F D = to_skip (to_after F) D
+
+pub to_all : {at : ℕ → ℕ} {first last n size v : ℕ} {before after : List ℕ} → n ≤ v → SplitTo at first last n size v before after
+    → SplitTo at first last n size n before after
+to_all {n = n} {size} {v} {before} {after} high S = record {
+  same_length = S.same_length;
+  low = S.low;
+  done = λ u l on. S.done u (omega arith) on;
+  left = λ u y l lu small. absurd (omega arith);
+}

@@ -5,15 +5,6 @@ use Rattle.order.proofs.laws.Rule.{below}
 use Rattle.subset_at.specs.laws.Choices.{first_ways, first_set, all_chosen}
 use Rattle.subset_at.proofs.at.Goals as goal
 
-pub size_range-range-requires : goal.size_range-range-requires
-size_range-range-requires c = (omega arith, c.requires)
-
-pub overflow_sub-choice : goal.overflow_sub-choice
-overflow_sub-choice c = let r = c.size_range-range.ensures in omega (arith, r.low, r.high)
-
-pub overflow_sub-choice-2 : goal.overflow_sub-choice-2
-overflow_sub-choice-2 c = c.size_range-range.ensures.low
-
 pub loop-choice-init : goal.loop-choice-init
 loop-choice-init c = let r = c.size_range-range.ensures in (first_ways r, first_set r)
 
@@ -21,12 +12,6 @@ pub next-choice-requires : goal.next-choice-requires
 next-choice-requires c =
     let inv = c.loop-choice.invariant in
     (inv.0, omega (arith, inv.1, below _ c.requires), c.loop-choice-test.true)
-
-pub loop-choice-smaller : goal.loop-choice-smaller
-loop-choice-smaller c = omega (arith, c.next-choice.ensures.2)
-
-pub loop-choice-preserved : goal.loop-choice-preserved
-loop-choice-preserved c = (c.next-choice.ensures.0, c.next-choice.ensures.1 ∙ c.loop-choice.invariant.1)
 
 pub returns : goal.returns
 returns c =

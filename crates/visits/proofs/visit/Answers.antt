@@ -10,10 +10,10 @@ use Rattle.visits.proofs.visit.Goals.{In-Some}
 
 -- the entry that is found is one of the group of v
 onward : (c : In-Some) → entry c.args.legs.places.now c.args.v ≤ c.in-Some.i
-onward c = omega (arith, c.loop-i.invariant.0, c.in-Some.ensures.before.onward)
+onward c = omega (arith, c.loop-i.invariant.0, c.in-Some.ensures.1.before.onward)
 
 known : (c : In-Some) → InGroup c.args.legs.starts.now c.args.legs.weights.now c.args.legs.index.now c.loop-i.lanes c.in-Some.i
-known c = in_group c.requires.2 c.requires.1 c.loop-i.invariant.2 (onward c) c.in-Some.ensures.within
+known c = in_group c.requires.2 c.requires.1 c.loop-i.invariant.2 (onward c) c.in-Some.ensures.0
 
 pub lanes_of-here-requires : goal.lanes_of-here-requires
 lanes_of-here-requires c = (at_node c.requires.2 c.requires.1).fits
@@ -49,12 +49,12 @@ lower_in_turn-requires c =
     (c.loop-i.invariant.1, e.start_lt, e.fits, lanes.indexed.low, along_small low e.weight_low c.along-by.ensures)
 
 pub loop-i-smaller : goal.loop-i-smaller
-loop-i-smaller c = omega (arith, c.in-Some.ensures.before.onward, c.in-Some.ensures.within)
+loop-i-smaller c = omega (arith, c.in-Some.ensures.1.before.onward, c.in-Some.ensures.0)
 
 pub loop-i-preserved : goal.loop-i-preserved
 loop-i-preserved c =
     let on = onward (goal.at.loop-i-preserved c).In-Some in
-    (omega (arith, on), c.lower_in_turn.auto.turns ∙ c.loop-i.invariant.1, group_arc c.loop-i.invariant.2 c.requires.1 on c.in-Some.ensures.within c.lanes_of-here.ensures c.along-by.ensures c.lower_in_turn.ensures)
+    (omega (arith, on), c.lower_in_turn.auto.turns ∙ c.loop-i.invariant.1, group_arc c.loop-i.invariant.2 c.requires.1 on c.in-Some.ensures.0 c.lanes_of-here.ensures c.along-by.ensures c.lower_in_turn.ensures)
 
 pub returns : goal.returns
 returns c = c.loop-i.invariant.2

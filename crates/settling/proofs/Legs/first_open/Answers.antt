@@ -1,7 +1,7 @@
 -- `Legs::first_open` meets its contract.
 -- Assumes nothing.
 use Rattle.std.proofs.Common.{◌+◌, arith}
-use Rattle.settling.specs.laws.ByIndex.{at_node, here_low, known_from, before_none, before_next, open_here, within_all, before_all}
+use Rattle.settling.specs.laws.ByIndex.{at_node, here_low, known_from, before_none, before_next, open_here, within_all, falling_end, open_none}
 use Rattle.settling.proofs.Legs.first_open.Goals as goal
 
 pub loop-v-init : goal.loop-v-init
@@ -21,10 +21,11 @@ next_falling-requires c =
 
 pub returns-in-Some : goal.returns-in-Some
 returns-in-Some c =
-    (within_all c.requires c.loop-v-test.true c.in-Some.ensures.within, open_here c.loop-v.invariant c.loop-v-test.true c.lanes_of.ensures c.in-Some.ensures)
+    let (less, found) = c.in-Some.ensures in
+    (within_all c.requires c.loop-v-test.true less, open_here c.loop-v.invariant c.loop-v-test.true c.lanes_of.ensures found less)
 
 pub loop-v-preserved : goal.loop-v-preserved
-loop-v-preserved c = before_next c.loop-v.invariant c.loop-v-test.true c.lanes_of.ensures c.in-None.ensures
+loop-v-preserved c = before_next c.loop-v.invariant c.loop-v-test.true c.lanes_of.ensures (falling_end c.in-None.ensures) (omega arith)
 
 pub returns : goal.returns
-returns c = before_all c.loop-v.invariant c.loop-v-test.false
+returns c = open_none c.loop-v.invariant c.loop-v-test.false

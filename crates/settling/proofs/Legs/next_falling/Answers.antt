@@ -2,7 +2,7 @@
 -- Assumes nothing.
 use Rattle.std.proofs.Common.{arith}
 use Rattle.settling.specs.laws.LowerFour.{along_small}
-use Rattle.settling.specs.laws.ByIndex.{InGroup, falls_none, falls_next, falls_found, falls_end}
+use Rattle.settling.specs.laws.ByIndex.{InGroup, falls_none, falls_next, falls_found, falls_not}
 use Rattle.settling.proofs.Legs.next_falling.Goals as goal
 
 pub loop-i-init : goal.loop-i-init
@@ -30,10 +30,10 @@ falls-requires c =
     (e.fits, p.1.low, along_small p.0 e.weight_low c.along-given.ensures)
 
 pub returns-then-falls : goal.returns-then-falls
-returns-then-falls c = falls_found c.along-given.ensures c.falls.ensures c.loop-i.invariant c.loop-i-test.true c.if-falls.true
+returns-then-falls c = (c.loop-i-test.true, falls_found c.along-given.ensures c.falls.ensures c.loop-i.invariant c.if-falls.true)
 
 pub loop-i-preserved : goal.loop-i-preserved
 loop-i-preserved c = falls_next c.along-given.ensures c.falls.ensures c.loop-i.invariant c.if-falls.false
 
 pub returns : goal.returns
-returns c = falls_end c.loop-i-test.false c.loop-i.invariant
+returns c = falls_not c.loop-i-test.false c.loop-i.invariant

@@ -16,14 +16,6 @@ returns-then-self-without c =
     let first = c.if-self-without.true in
     (ways_without p.0 p.2 first, omega (arith, same_without p.0 p.2 first), omega (arith, p.2))
 
-pub overflow_sub-result : goal.overflow_sub-result
-overflow_sub-result c = let p = c.requires in size_some p.0 p.2 c.if-self-without.false
-
-pub overflow_add-result : goal.overflow_add-result
-overflow_add-result c =
-    let p = c.requires in
-    omega (arith, p.1, same_with p.0 p.2 c.if-self-without.false, c.single.ensures)
-
 pub returns : goal.returns
 returns c =
     let p = c.requires in

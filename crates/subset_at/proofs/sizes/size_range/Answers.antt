@@ -7,12 +7,6 @@ use Rattle.subset_at.proofs.sizes.size_range.Goals as goal
 pub loop-count-init : goal.loop-count-init
 loop-count-init c = first_size c.requires.0 c.requires.1
 
-pub overflow_sub-position : goal.overflow_sub-position
-overflow_sub-position c = c.loop-count.invariant.low
-
-pub overflow_add-first : goal.overflow_add-first
-overflow_add-first c = omega (arith, last_small c.loop-count.invariant)
-
 pub overflow_sub-count : goal.overflow_sub-count
 overflow_sub-count c = in_stations c.loop-count.invariant
 
