@@ -15,10 +15,11 @@ use denote.Triple.Clauses.{AtExit}
 use lib.ListN.{length}
 use Rattle.lists.specs.Over.{over}
 use Rattle.subset.specs.Sets.{full}
-use Rattle.answer.specs.Stated.{plan, shared, sender, stated, stated_enquiry, stated_sharing}
-use Rattle.answer.specs.declared.Answer.{Answer}
-use Rattle.answer.specs.declared.Enquiry.{Enquiry}
-use Rattle.answer.specs.declared.Sharing.{Sharing}
+use Rattle.answer.specs.Stated.{plan, shared, sender, stated, stated_cell, stated_sender, stated_sharing}
+use Rattle.answer.specs.declared.Plan.{Plan}
+use Rattle.answer.specs.declared.Shared.{Shared}
+use Rattle.answer.specs.declared.Refusal.{Refusal}
+use Rattle.std.specs.Prelude.{Result, Option}
 use Rattle.lent_tables.specs.SheetTables.{sheet_tables}
 use Rattle.graph.specs.Graph.{Graph}
 use Rattle.number_fields.specs.Fields.{Bytes}
@@ -46,12 +47,12 @@ use Rattle.cases.proofs.laws.EngineShares.{engine_assigned}
 -- calls of the enquirer over these cells and landing entries, for n sites and k stations: each answer means the least total
 pub record CallsMean (n k : ℕ) (G : Graph) (left entries : List ℕ) : Type 0 where
   pub cell_call : (κs : Lfts 1) (cells : Bor (List ℕ)) → cells.now ≡ left → (v w : ℕ) → v < n → w < 2 ^ k
-      → (r : Enquiry) (e : AtExit (ended_of 1 cell-kinds.ps cell-kinds.r) κs) → cell.Learnt κs (cells, (n, (k, (v, (w, tt))))) r e
-      → CellMeans G v w (stated_enquiry r)
+      → (r : Result ℕ Refusal) (e : AtExit (ended_of 1 cell-kinds.ps cell-kinds.r) κs) → cell.Learnt κs (cells, (n, (k, (v, (w, tt))))) r e
+      → CellMeans G v w (stated_cell r)
   pub sender_call : (κs : Lfts 1) (cells landings : Bor (List ℕ)) → cells.now ≡ left → landings.now ≡ entries → (w : ℕ) → w < 2 ^ k
-      → (r : Enquiry) (e : AtExit (ended_of 1 sender-kinds.ps sender-kinds.r) κs)
+      → (r : Result (Option ℕ) Refusal) (e : AtExit (ended_of 1 sender-kinds.ps sender-kinds.r) κs)
       → best-sender.Learnt κs (cells, (landings, (n, (k, (w, tt))))) r e
-      → SenderMeans G w (stated_enquiry r)
+      → SenderMeans G w (stated_sender r)
 
 calls : (n k : ℕ) (G : Graph) (left entries : List ℕ) → MeansLeast n k G left entries → CallsMean n k G left entries
 calls n k G left entries means = record {
@@ -63,7 +64,7 @@ calls n k G left entries means = record {
 
 -- after a call of the engine: its arguments a, of which the first is the sheet, its answer r, and what it left e, of which the fifth is the landing
 -- entries and the eighth the cells
-pub enquired_calls : (κs : Lfts 10) (a : Dens κs plan-kinds.ps) (r : Answer) (e : AtExit (ended_of 10 plan-kinds.ps plan-kinds.r) κs)
+pub enquired_calls : (κs : Lfts 10) (a : Dens κs plan-kinds.ps) (r : Result Plan Refusal) (e : AtExit (ended_of 10 plan-kinds.ps plan-kinds.r) κs)
     → plan-sheet.Learnt κs a r e → Bytes a.0.now → Finished (stated r)
     → GoodWith a.0.now (λ n k records. CallsMean n k (graph_of n k records) e.1.1.1.1.1.1.1.0.now e.1.1.1.1.0.now)
 enquired_calls κs a r e learnt bytes finished =
@@ -74,11 +75,11 @@ enquired_calls κs a r e learnt bytes finished =
 abbrev RootCall : (n k root : ℕ) (left entries : List ℕ) → Type 0
 RootCall n k root left entries =
     (κs : Lfts 1) (cells landings : Bor (List ℕ)) → cells.now ≡ left → landings.now ≡ entries
-    → (r : Enquiry) (e : AtExit (ended_of 1 sender-kinds.ps sender-kinds.r) κs)
-    → best-sender.Learnt κs (cells, (landings, (n, (k, (full k, tt))))) r e → stated_enquiry r ≡ sender root
+    → (r : Result (Option ℕ) Refusal) (e : AtExit (ended_of 1 sender-kinds.ps sender-kinds.r) κs)
+    → best-sender.Learnt κs (cells, (landings, (n, (k, (full k, tt))))) r e → stated_sender r ≡ sender root
 
 -- after a call of the engine that gives a plan: it names the root
-pub root_calls : (κs : Lfts 10) (a : Dens κs plan-kinds.ps) (r : Answer) (e : AtExit (ended_of 10 plan-kinds.ps plan-kinds.r) κs)
+pub root_calls : (κs : Lfts 10) (a : Dens κs plan-kinds.ps) (r : Result Plan Refusal) (e : AtExit (ended_of 10 plan-kinds.ps plan-kinds.r) κs)
     → plan-sheet.Learnt κs a r e → Bytes a.0.now → (root cost count : ℕ) → stated r ≡ plan root cost count
     → GoodWith a.0.now (λ n k records. RootCall n k root e.1.1.1.1.1.1.1.0.now e.1.1.1.1.0.now)
 root_calls κs a r e learnt bytes root cost count is =
@@ -102,7 +103,7 @@ lent_to κs a =
 
 -- a call of `share_plan` that accepts a file: its arguments a, of which the first two are the sheet and the file, its answer r, and what it left e, of
 -- which the eighth is the share table
-pub whole_calls : (κs : Lfts 8) (a : Dens κs share-kinds.ps) (r : Sharing) (e : AtExit (ended_of 8 share-kinds.ps share-kinds.r) κs)
+pub whole_calls : (κs : Lfts 8) (a : Dens κs share-kinds.ps) (r : Result Shared Refusal) (e : AtExit (ended_of 8 share-kinds.ps share-kinds.r) κs)
     → share-plan.Learnt κs a r e → (root cost count rest : ℕ) → stated_sharing r ≡ shared root cost count rest
     → GoodWith a.0.now (λ n k records. MakesTotal (graph_of n k records) a.1.0.now e.1.1.1.1.1.1.1.0.now cost rest)
 whole_calls κs a r e learnt root cost count rest is =
@@ -118,7 +119,7 @@ whole_calls κs a r e learnt root cost count rest is =
 -- the shares of a file, asked for with long enough tables: nothing is unassigned
 abbrev ShareCall : (sheet : List ℕ) (root cost count : ℕ) (file : List ℕ) (n k : ℕ) (records : List Record) → Type 0
 ShareCall sheet root cost count file n k records =
-    (κs : Lfts 8) (a : Dens κs share-kinds.ps) (r : Sharing) (e : AtExit (ended_of 8 share-kinds.ps share-kinds.r) κs)
+    (κs : Lfts 8) (a : Dens κs share-kinds.ps) (r : Result Shared Refusal) (e : AtExit (ended_of 8 share-kinds.ps share-kinds.r) κs)
     → share-plan.Learnt κs a r e → a.0.now ≡ sheet → a.1.0.now ≡ file → ShareLong n k (length (arcs records)) (lent_to κs a)
     → stated_sharing r ≡ shared root cost count 0
 
@@ -129,7 +130,7 @@ pub record SharedCalls (sheet : List ℕ) (root cost count : ℕ) (before after 
   pub written : after ≡ over file before
   pub calls : ShareCall sheet root cost count file n k records
 
-pub share_calls : (κs : Lfts 10) (a : Dens κs plan-kinds.ps) (r : Answer) (e : AtExit (ended_of 10 plan-kinds.ps plan-kinds.r) κs)
+pub share_calls : (κs : Lfts 10) (a : Dens κs plan-kinds.ps) (r : Result Plan Refusal) (e : AtExit (ended_of 10 plan-kinds.ps plan-kinds.r) κs)
     → plan-sheet.Learnt κs a r e → Bytes a.0.now → (root cost count : ℕ) → stated r ≡ plan root cost count
     → GoodWith a.0.now (SharedCalls a.0.now root cost count a.1.1.1.1.1.1.1.1.1.0.now e.1.1.1.1.1.1.1.1.1.0.now)
 share_calls κs a r e learnt bytes root cost count is =

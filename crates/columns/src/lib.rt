@@ -4,34 +4,30 @@
 
 ghost use Rattle.std.specs.Prelude.{◌≡◌, false, ℕ, ◌<◌, ◌≤◌, length};
 ghost use Rattle.limits.specs.Limits.{max_subsets};
-ghost use Rattle.lent_tables.specs.SheetTables.{arcs_alone};
-ghost use Rattle.lanes.specs.laws.Four.{nth_number};
+ghost use Rattle.settling.specs.laws.Legs.{tables_of};
+ghost use Rattle.lanes.specs.laws.Four.{nth};
 ghost use Rattle.order_ranges.specs.laws.Ranges.{Ordered, OneSize, entry_of};
 ghost use Rattle.columns.specs.laws.Searched.{Tables};
 ghost use Rattle.columns.specs.laws.ClosedCells.{FourClosed, SetsClosed, NextFour};
 ghost use Rattle.columns.specs.laws.NoneFinite.{AllNone};
 
-use lanes::{FourNumbers, four_from, give_columns, take_columns};
+use lanes::{Four, four_from, give_columns, take_columns};
 use limits::Cost;
-use settling::settle;
+use settling::Legs;
 use turns::lower_by_turns;
 use working_none::WORKING_NONE;
 
 // The sets at four positions from `position` on; past the last one before `last`, that one again.
-fn sets_at(sets: &[u16], position: usize, last: usize) -> FourNumbers
+fn sets_at(sets: &[u16], position: usize, last: usize) -> Four<usize>
     requires { (position < last) × (last ≤ length sets.now) × (length sets.now ≤ max_subsets) }
-    ensures { NextFour (entry_of sets.now) position last (nth_number result) }
+    ensures { NextFour (entry_of sets.now) position last (nth result) }
 {
     let at = four_from(position, last);
-    let a = at.a;
-    let b = at.b;
-    let c = at.c;
-    let d = at.d;
-    FourNumbers {
-        a: sets[a] as usize,
-        b: sets[b] as usize,
-        c: sets[c] as usize,
-        d: sets[d] as usize,
+    Four {
+        a: sets[at.a] as usize,
+        b: sets[at.b] as usize,
+        c: sets[at.c] as usize,
+        d: sets[at.d] as usize,
     }
 }
 
@@ -40,10 +36,8 @@ fn some_finite(lanes: &[Cost]) -> bool
     ensures { result ≡ false → AllNone lanes.now }
 {
     let mut found = false;
-    let mut i = 0;
-    while i < lanes.len() {
-        found = found | (lanes[i] < WORKING_NONE);
-        i += 1;
+    for cost in lanes {
+        found |= *cost < WORKING_NONE;
     }
     found
 }
@@ -51,60 +45,42 @@ fn some_finite(lanes: &[Cost]) -> bool
 // The cells of four sets are lowered along the legs until no leg gives less; where all of them are "none", none does. The index may leave out
 // legs that are dearer than parallel ones; the lanes have four entries for each site.
 fn close_four(
-    starts: &[u16],
-    ends: &[u16],
-    weights: &[u32],
-    index: &[u16],
-    places: &[u16],
+    legs: Legs,
     arcs: usize,
-    n: usize,
     size: usize,
-    sets: FourNumbers,
+    sets: Four<usize>,
     cells: &mut [Cost],
     lanes: &mut [Cost],
 )
-    requires { let t = arcs_alone starts.now ends.now weights.now in
-        (Tables n arcs size t index.now places.now cells.old lanes.old × ((j : ℕ) → j < 4 → nth_number sets j < size)) }
-    ensures { let t = arcs_alone starts.now ends.now weights.now in
-        (FourClosed n arcs size t (nth_number sets) cells.old cells.new) }
+    requires { Tables legs.n arcs size (tables_of legs) legs.index.now legs.places.now cells.old lanes.old × ((j : ℕ) → j < 4 → nth sets j < size) }
+    ensures { FourClosed legs.entry.n arcs size (tables_of legs.entry) (nth sets) cells.old cells.new }
 {
-    take_columns(cells, n, size, sets, lanes);
+    take_columns(cells, legs.n, size, sets, lanes);
     if !some_finite(lanes) {
         return;
     }
-    lower_by_turns(starts, weights, index, places, n, lanes);
-    settle(starts, ends, weights, index, places, n, lanes);
-    give_columns(lanes, n, size, sets, cells);
+    lower_by_turns(legs, lanes);
+    legs.settle(lanes);
+    give_columns(lanes, legs.n, size, sets, cells);
 }
 
 // The same for the sets at the positions from `first` up to `last`, which have one size.
 pub fn close_sets(
     sets: &[u16],
-    starts: &[u16],
-    ends: &[u16],
-    weights: &[u32],
-    index: &[u16],
-    places: &[u16],
+    legs: Legs,
     arcs: usize,
-    n: usize,
     size: usize,
     first: usize,
     last: usize,
     cells: &mut [Cost],
     lanes: &mut [Cost],
 )
-    requires { let t = arcs_alone starts.now ends.now weights.now in
-        (Ordered (entry_of sets.now) (length sets.now) size × OneSize (entry_of sets.now) (length sets.now) first last
-        × (length sets.now ≤ max_subsets) × Tables n arcs size t index.now places.now cells.old lanes.old) }
-    ensures { let t = arcs_alone starts.now ends.now weights.now in
-        (SetsClosed n arcs size t (entry_of sets.now) first last last cells.old cells.new) }
+    requires { Ordered (entry_of sets.now) (length sets.now) size × OneSize (entry_of sets.now) (length sets.now) first last
+        × (length sets.now ≤ max_subsets) × Tables legs.n arcs size (tables_of legs) legs.index.now legs.places.now cells.old lanes.old }
+    ensures { SetsClosed legs.entry.n arcs size (tables_of legs.entry) (entry_of sets.now) first last last cells.old cells.new }
 {
-    let mut position = first;
-    while position < last {
+    for position in (first..last).step_by(4) {
         let four = sets_at(sets, position, last);
-        close_four(
-            starts, ends, weights, index, places, arcs, n, size, four, cells, lanes,
-        );
-        position += 4;
+        close_four(legs, arcs, size, four, cells, lanes);
     }
 }

@@ -13,8 +13,8 @@ ghost use Rattle.engine.specs.Engine.{planning_of};
 use answer::Answer;
 use held_plan::plan_held;
 use lent_tables::FurtherLengths;
-use limits::Cost;
-use opener::{Loaded, open_sheet};
+use limits::{Cost, Counts};
+use opener::open_sheet;
 
 // The engine.
 pub fn plan_sheet(
@@ -39,11 +39,8 @@ pub fn plan_sheet(
         × EngineBest reading_of sheet.now before (stated result)))) }
 {
     let further = FurtherLengths::of_search(by_end.len(), places.len(), cells.len(), marks.len());
-    let opened = open_sheet(sheet, starts, ends, weights, landings, further);
-    match opened {
-        Loaded::Refused(refusal) => Answer::Refused(refusal),
-        Loaded::Sheet { n, k, arcs } => plan_held(
-            starts, ends, weights, landings, by_end, places, n, k, arcs, cells, marks, buffer,
-        ),
-    }
+    let Counts { n, k, arcs } = open_sheet(sheet, starts, ends, weights, landings, further)?;
+    plan_held(
+        starts, ends, weights, landings, by_end, places, n, k, arcs, cells, marks, buffer,
+    )
 }

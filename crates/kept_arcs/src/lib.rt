@@ -86,10 +86,8 @@ fn keep_group(
     ensures { KeptTo starts.now weights.now list.now from end first result kept.old kept.new }
 {
     let mut count = first;
-    let mut i = from;
-    while i < end {
+    for i in from..end {
         count = keep_arc(starts, weights, list[i], first, count, last, kept);
-        i += 1;
     }
     count
 }
@@ -110,12 +108,10 @@ pub fn keep_cheapest(
     let mut last = [0u16; SITES];
     begins[0] = 0;
     let mut count = 0;
-    let mut v = 0;
-    while v < n {
+    for v in 0..n {
         let from = places[v] as usize;
-        v += 1;
-        let end = places[v] as usize;
+        let end = places[v + 1] as usize;
         count = keep_group(starts, weights, list, from, end, count, &mut last, kept);
-        begins[v] = count as u16;
+        begins[v + 1] = count as u16;
     }
 }

@@ -3,32 +3,23 @@
 
 ghost use Rattle.std.specs.Prelude.{◌≡◌, ℕ, ◌+◌, ◌*◌, ◌<◌, ◌≤◌, min, ltb, length};
 ghost use Rattle.limits.specs.Limits.{max_subsets};
-ghost use Rattle.lanes.specs.laws.Four.{nth, nth_number, signed_limit, FourSmall, four_at, four_of, less_four, four_from};
+ghost use Rattle.lanes.specs.laws.Four.{nth, signed_limit, FourSmall, four_at, four_of, less_four, four_from};
 ghost use Rattle.lanes.specs.laws.WriteFour.{write_four};
 ghost use Rattle.lanes.specs.laws.Columns.{ColumnsTaken, ColumnsGiven};
 
 use limits::{Cost, SignedCost};
 
-// The cells of one site, one for each of four sets.
+// The cells of one site, one for each of four sets; or four sets, or four sites.
 #[derive(Clone, Copy)]
-pub struct Four {
-    pub a: Cost,
-    pub b: Cost,
-    pub c: Cost,
-    pub d: Cost,
-}
-
-// Four sets, or four sites.
-#[derive(Clone, Copy)]
-pub struct FourNumbers {
-    pub a: usize,
-    pub b: usize,
-    pub c: usize,
-    pub d: usize,
+pub struct Four<T> {
+    pub a: T,
+    pub b: T,
+    pub c: T,
+    pub d: T,
 }
 
 // The four columns of a table that has no other ones.
-const LANES: FourNumbers = FourNumbers {
+const LANES: Four<usize> = Four {
     a: 0,
     b: 1,
     c: 2,
@@ -55,28 +46,8 @@ fn lesser_signed(x: Cost, y: Cost) -> Cost
     y
 }
 
-// The lesser of two costs.
-pub fn lesser(x: Cost, y: Cost) -> Cost
-    ensures { result ≡ min x y }
-{
-    if x < y {
-        return x;
-    }
-    y
-}
-
-// The lesser of two numbers.
-fn lesser_number(x: usize, y: usize) -> usize
-    ensures { result ≡ min x y }
-{
-    if x < y {
-        return x;
-    }
-    y
-}
-
 // The lesser ones of four and four costs.
-pub fn lesser_of(x: Four, y: Four) -> Four
+pub fn lesser_of(x: Four<Cost>, y: Four<Cost>) -> Four<Cost>
     requires { FourSmall x × FourSmall y }
     ensures { result ≡ less_four x y }
 {
@@ -89,23 +60,23 @@ pub fn lesser_of(x: Four, y: Four) -> Four
 }
 
 // The four numbers from `first` on; past the last one below `end`, that one again.
-pub fn four_from(first: usize, end: usize) -> FourNumbers
+pub fn four_from(first: usize, end: usize) -> Four<usize>
     requires { (first < end) × (end ≤ max_subsets) }
     ensures { result ≡ four_from first end }
 {
     let last = end - 1;
-    FourNumbers {
+    Four {
         a: first,
-        b: lesser_number(first + 1, last),
-        c: lesser_number(first + 2, last),
-        d: lesser_number(first + 3, last),
+        b: (first + 1).min(last),
+        c: (first + 2).min(last),
+        d: (first + 3).min(last),
     }
 }
 
 // The cells of site v and four sets, in a table with so many cells for each site.
-fn read_four(cells: &[Cost], size: usize, v: usize, sets: FourNumbers) -> Four
+fn read_four(cells: &[Cost], size: usize, v: usize, sets: Four<usize>) -> Four<Cost>
     requires { (v * size + size ≤ length cells.now) × (sets.a < size) × (sets.b < size) × (sets.c < size) × (sets.d < size) }
-    ensures { result ≡ four_at cells.now size v (nth_number sets) }
+    ensures { result ≡ four_at cells.now size v (nth sets) }
 {
     let row = v * size;
     Four {
@@ -117,9 +88,9 @@ fn read_four(cells: &[Cost], size: usize, v: usize, sets: FourNumbers) -> Four
 }
 
 // They are written; where two of the sets are one, the later value counts.
-fn write_four(cells: &mut [Cost], size: usize, v: usize, sets: FourNumbers, four: Four)
+fn write_four(cells: &mut [Cost], size: usize, v: usize, sets: Four<usize>, four: Four<Cost>)
     requires { (v * size + size ≤ length cells.old) × (sets.a < size) × (sets.b < size) × (sets.c < size) × (sets.d < size) }
-    ensures { cells.new ≡ write_four size v (nth_number sets) (nth four) cells.old }
+    ensures { cells.new ≡ write_four size v (nth sets) (nth four) cells.old }
 {
     let row = v * size;
     cells[row + sets.a] = four.a;
@@ -129,7 +100,7 @@ fn write_four(cells: &mut [Cost], size: usize, v: usize, sets: FourNumbers, four
 }
 
 // The cells of site v in four columns.
-pub fn lanes_of(lanes: &[Cost], v: usize) -> Four
+pub fn lanes_of(lanes: &[Cost], v: usize) -> Four<Cost>
     requires { v * 4 + 4 ≤ length lanes.now }
     ensures { result ≡ four_of lanes.now v }
 {
@@ -137,7 +108,7 @@ pub fn lanes_of(lanes: &[Cost], v: usize) -> Four
 }
 
 // They are written.
-pub fn set_lanes(lanes: &mut [Cost], v: usize, four: Four)
+pub fn set_lanes(lanes: &mut [Cost], v: usize, four: Four<Cost>)
     requires { v * 4 + 4 ≤ length lanes.old }
     ensures { lanes.new ≡ write_four 4 v (λ j. j) (nth four) lanes.old }
 {
@@ -145,26 +116,22 @@ pub fn set_lanes(lanes: &mut [Cost], v: usize, four: Four)
 }
 
 // The cells of four sets, site by site.
-pub fn take_columns(cells: &[Cost], n: usize, size: usize, sets: FourNumbers, lanes: &mut [Cost])
-    requires { (n * size ≤ length cells.now) × (n * 4 ≤ length lanes.old) × ((j : ℕ) → j < 4 → nth_number sets j < size) }
-    ensures { ColumnsTaken size (nth_number sets) cells.now n lanes.old lanes.new }
+pub fn take_columns(cells: &[Cost], n: usize, size: usize, sets: Four<usize>, lanes: &mut [Cost])
+    requires { (n * size ≤ length cells.now) × (n * 4 ≤ length lanes.old) × ((j : ℕ) → j < 4 → nth sets j < size) }
+    ensures { ColumnsTaken size (nth sets) cells.now n lanes.old lanes.new }
 {
-    let mut v = 0;
-    while v < n {
+    for v in 0..n {
         set_lanes(lanes, v, read_four(cells, size, v, sets));
-        v += 1;
     }
 }
 
 // They become the cells of the four sets, from the last site on: its cells were taken last, and are the nearest in a cache. Where two of the sets are one,
 // the later column counts.
-pub fn give_columns(lanes: &[Cost], n: usize, size: usize, sets: FourNumbers, cells: &mut [Cost])
-    requires { (n * size ≤ length cells.old) × (n * 4 ≤ length lanes.now) × ((j : ℕ) → j < 4 → nth_number sets j < size) }
-    ensures { ColumnsGiven size (nth_number sets) lanes.now n cells.old cells.new }
+pub fn give_columns(lanes: &[Cost], n: usize, size: usize, sets: Four<usize>, cells: &mut [Cost])
+    requires { (n * size ≤ length cells.old) × (n * 4 ≤ length lanes.now) × ((j : ℕ) → j < 4 → nth sets j < size) }
+    ensures { ColumnsGiven size (nth sets) lanes.now n cells.old cells.new }
 {
-    let mut v = n;
-    while 0 < v {
-        v -= 1;
+    for v in (0..n).rev() {
         write_four(cells, size, v, sets, lanes_of(lanes, v));
     }
 }

@@ -10,11 +10,9 @@ fn print_line(rt: &impl Print, position: u16, subset: u16) -> io::Result<()> {
 }
 
 fn main(rt: HostRuntime) -> io::Result<()> {
-    let mut position: u16 = 0;
-    while position < MAX_SUBSETS {
+    for position in 0..MAX_SUBSETS {
         let subset = subset_at::at(position);
         print_line(&rt, position, subset.0)?;
-        position += 1;
     }
     Ok(())
 }

@@ -10,7 +10,7 @@ pub fn u16_at(bytes: &[u8], at: usize) -> u16
     requires { at + 1 < length bytes.now }
     ensures { result ≡ number16 bytes.now at }
 {
-    (bytes[at] as u16) * 256 + (bytes[at + 1] as u16)
+    u16::from_be_bytes([bytes[at], bytes[at + 1]])
 }
 
 // The number of four bytes at a place.
@@ -18,7 +18,7 @@ pub fn u32_at(bytes: &[u8], at: usize) -> u32
     requires { at + 3 < length bytes.now }
     ensures { result ≡ number32 bytes.now at }
 {
-    (u16_at(bytes, at) as u32) * 65536 + (u16_at(bytes, at + 2) as u32)
+    u32::from_be_bytes([bytes[at], bytes[at + 1], bytes[at + 2], bytes[at + 3]])
 }
 
 // A number of two bytes is stored at a place.
@@ -26,8 +26,7 @@ pub fn put_u16(buffer: &mut [u8], at: usize, x: u16)
     requires { at + 1 < length buffer.old }
     ensures { buffer.new ≡ sets buffer.old at (bytes16 x) }
 {
-    buffer[at] = (x / 256) as u8;
-    buffer[at + 1] = (x % 256) as u8;
+    buffer[at..at + 2].copy_from_slice(&x.to_be_bytes());
 }
 
 // A number of four bytes is stored at a place.
@@ -35,6 +34,7 @@ pub fn put_u32(buffer: &mut [u8], at: usize, x: u32)
     requires { at + 3 < length buffer.old }
     ensures { buffer.new ≡ sets buffer.old at (bytes32 x) }
 {
+    // Two bytes twice: for `to_be_bytes` of a `u32` the proof of what is stored did not close.
     put_u16(buffer, at, (x / 65536) as u16);
     put_u16(buffer, at + 2, (x % 65536) as u16);
 }

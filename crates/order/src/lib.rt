@@ -17,10 +17,5 @@ pub fn copy_order(sets: &mut [u16])
     requires { length sets.old ≡ max_subsets }
     ensures { sets.new ≡ map in_order (numbers 0 max_subsets) }
 {
-    let table = entries::ORDER;
-    let mut position: usize = 0;
-    while position < POSITIONS {
-        sets[position] = table[position];
-        position += 1;
-    }
+    sets.copy_from_slice(&entries::ORDER);
 }

@@ -15,14 +15,12 @@ pub fn sets_below(size: usize, sets: &mut [u16]) -> usize
 {
     copy_order(sets);
     let mut count: usize = 0;
-    let mut position: usize = 0;
-    while position < POSITIONS {
+    for position in 0..POSITIONS {
         let w = sets[position];
         sets[count] = w;
         if (w as usize) < size {
             count += 1;
         }
-        position += 1;
     }
     count
 }
@@ -33,12 +31,10 @@ pub fn end_of_size(sets: &[u16], first: usize) -> usize
     ensures { SizeEnd (entry_of sets.now) (length sets.now) first result }
 {
     let size = Subset(sets[first]).size();
-    let mut last = first + 1;
-    while last < sets.len() {
+    for last in first + 1..sets.len() {
         if Subset(sets[last]).size() != size {
             return last;
         }
-        last += 1;
     }
-    last
+    sets.len()
 }

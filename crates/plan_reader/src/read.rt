@@ -10,7 +10,8 @@ ghost use Rattle.plan_reader.specs.Reader.{reading_of};
 use answer::Answer;
 use file_reader::read_file;
 use lent_tables::FurtherLengths;
-use opener::{Loaded, open_sheet};
+use limits::Counts;
+use opener::open_sheet;
 
 // The plan reader.
 pub fn read_plan(
@@ -31,11 +32,6 @@ pub fn read_plan(
         × ReaderAnswers sheet.now file.now before (stated result) after)) }
 {
     let further = FurtherLengths::of_marks(marks.len());
-    let opened = open_sheet(sheet, starts, ends, weights, landings, further);
-    match opened {
-        Loaded::Refused(refusal) => Answer::Refused(refusal),
-        Loaded::Sheet { n, k, arcs } => {
-            read_file(file, n, k, arcs, starts, ends, weights, landings, marks)
-        }
-    }
+    let Counts { n, k, arcs } = open_sheet(sheet, starts, ends, weights, landings, further)?;
+    read_file(file, n, k, arcs, starts, ends, weights, landings, marks)
 }

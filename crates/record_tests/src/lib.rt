@@ -104,7 +104,7 @@ pub fn end(at: usize, k: u8, heard: Subset, fields: &[u8]) -> Found
     if 0 < fields.len() {
         return Err(SheetFault::AfterTheEnd(at + 2));
     }
-    if heard.0 == Subset::full(k).0 {
+    if heard == Subset::full(k) {
         return Ok(None);
     }
     Err(SheetFault::Unheard(at))

@@ -20,11 +20,8 @@ fn start_cell(landings: Subset, w: u16) -> Cost
         return 0;
     }
     let set = Subset(w);
-    if set.is_part_of(landings) {
-        if set.size() == 1 {
-            return 0;
-        }
-        return WORKING_NONE;
+    if set.is_part_of(landings) && set.size() == 1 {
+        return 0;
     }
     WORKING_NONE
 }
@@ -34,10 +31,8 @@ fn start_row(landings: Subset, row: &mut [Cost])
     requires { length row.old ≤ max_subsets }
     ensures { row.new ≡ map (start_cell landings.0) (numbers 0 (length row.old)) }
 {
-    let mut w: usize = 0;
-    while w < row.len() {
-        row[w] = start_cell(landings, w as u16);
-        w += 1;
+    for (w, cost) in row.iter_mut().enumerate() {
+        *cost = start_cell(landings, w as u16);
     }
 }
 
@@ -46,11 +41,9 @@ pub fn start_rows(landings: &[u16], n: usize, size: usize, cells: &mut [Cost])
     requires { (n ≤ max_nodes) × (size ≤ max_subsets) × (length cells.old ≡ n * size) × (n ≤ length landings.now) }
     ensures { EachRow (StartRow landings.now) n size n cells.old cells.new }
 {
-    let mut v: usize = 0;
-    while v < n {
+    for v in 0..n {
         let from = v * size;
         let to = from + size;
         start_row(terminals_in(landings[v]), &mut cells[from..to]);
-        v += 1;
     }
 }

@@ -5,10 +5,11 @@
 ghost use Rattle.std.specs.Prelude.{◌≡◌, ◌*◌, ◌^◌, ◌≤◌, length, replicate};
 ghost use Rattle.limits.specs.Limits.{no_cost, max_subsets};
 ghost use Rattle.lists.specs.Over.{over};
-ghost use Rattle.lent_tables.specs.SheetTables.{sheet_tables};
+ghost use Rattle.lent_tables.specs.SheetTables.{sheet_tables, with_landings};
 ghost use Rattle.arc_index.specs.laws.Indexed.{Indexed, WholeIndex};
 ghost use Rattle.working_none.specs.laws.Low.{entry};
 ghost use Rattle.settling.specs.laws.Arcs.{start_at, end_at, weight_at};
+ghost use Rattle.settling.specs.laws.Legs.{tables_of};
 ghost use Rattle.settling.specs.laws.Lowered.{AllCovered};
 ghost use Rattle.graph.specs.HeldGraph.{graph_in};
 ghost use Rattle.cost_table.specs.Cells.{cost_table};
@@ -21,6 +22,7 @@ use limits::Cost;
 use order::POSITIONS;
 use order_ranges::{end_of_size, sets_below};
 use rows::start_rows;
+use settling::Legs;
 use splits::split_rows;
 use subset::sets_of;
 use working_none::finish;
@@ -36,42 +38,33 @@ const MAX_PLACES: usize = limits::MAX_NODES as usize + 1;
 // The cells of all sites and sets. The index may leave out legs that are dearer than parallel ones; `sets` has the sets in their order, and `lanes` four
 // entries for each site and for each set.
 fn fill(
-    starts: &[u16],
-    ends: &[u16],
-    weights: &[u32],
+    legs: Legs,
     landings: &[u16],
-    index: &[u16],
-    places: &[u16],
     sets: &[u16],
-    n: usize,
     k: u8,
     arcs: usize,
     cells: &mut [Cost],
     lanes: &mut [Cost],
 )
-    requires { let t = sheet_tables starts.now ends.now weights.now landings.now in
-        (Searchable n k arcs t × Indexed n arcs (graph_in n k arcs t).end index.now places.now × (length cells.old ≡ n * 2 ^ k)
-        × (n * 4 ≤ length lanes.old) × (2 ^ k * 4 ≤ length lanes.old) × Ordered (entry_of sets.now) (length sets.now) (2 ^ k)
-        × (length sets.now ≤ max_subsets) × AllCovered arcs (start_at t) (end_at t) (weight_at t) index.now (entry places.now n)) }
-    ensures { let t = sheet_tables starts.now ends.now weights.now landings.now in
-        (cells.new ≡ cost_table (graph_in n k arcs t) no_cost) }
+    requires { let t = with_landings landings.now (tables_of legs) in
+        (Searchable legs.n k arcs t × Indexed legs.n arcs (graph_in legs.n k arcs t).end legs.index.now legs.places.now × (length cells.old ≡ legs.n * 2 ^ k)
+        × (legs.n * 4 ≤ length lanes.old) × (2 ^ k * 4 ≤ length lanes.old) × Ordered (entry_of sets.now) (length sets.now) (2 ^ k)
+        × (length sets.now ≤ max_subsets) × AllCovered arcs (start_at t) (end_at t) (weight_at t) legs.index.now (entry legs.places.now legs.n)) }
+    ensures { cells.new ≡ cost_table (graph_in legs.entry.n k arcs (with_landings landings.now (tables_of legs.entry))) no_cost }
 {
+    let n = legs.n;
     let size = sets_of(k);
     let wide = n * 4;
     start_rows(landings, n, size, cells);
+    // Not a `for`: a range of one size after the other.
     let mut first: usize = 1;
     while first < sets.len() {
         let last = end_of_size(sets, first);
         split_rows(sets, landings, n, size, first, last, cells, lanes);
         close_sets(
             sets,
-            starts,
-            ends,
-            weights,
-            index,
-            places,
+            legs,
             arcs,
-            n,
             size,
             first,
             last,
@@ -81,17 +74,6 @@ fn fill(
         first = last;
     }
     finish(cells);
-}
-
-// 1 in each mark.
-fn mark_all(marks: &mut [u8])
-    ensures { marks.new ≡ replicate (length marks.old) 1 }
-{
-    let mut v = 0;
-    while v < marks.len() {
-        marks[v] = 1;
-        v += 1;
-    }
 }
 
 // The cost table and the marks of a sheet with n sites, k stations and so many legs, over the tables that hold it and the index of its legs.
@@ -132,19 +114,23 @@ pub fn search(
         &mut kept,
         &mut begins,
     );
-    fill(
+    let legs = Legs {
+        n: nodes,
         starts,
         ends,
         weights,
+        index: &kept,
+        places: &begins,
+    };
+    fill(
+        legs,
         landings,
-        &kept,
-        &begins,
         &sets[..count],
-        nodes,
         k,
         arcs as usize,
         &mut cells[..total],
         &mut lanes,
     );
-    mark_all(&mut marks[..nodes]);
+    let marked = &mut marks[..nodes];
+    marked.fill(1);
 }

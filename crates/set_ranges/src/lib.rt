@@ -24,10 +24,8 @@ fn put_sizes(sizes: &mut [u16])
     requires { length sizes.old ≤ max_subsets }
     ensures { sizes.new ≡ map ones (numbers 0 (length sizes.old)) }
 {
-    let mut w: usize = 0;
-    while w < sizes.len() {
-        sizes[w] = Subset(w as u16).size() as u16;
-        w += 1;
+    for (w, size) in sizes.iter_mut().enumerate() {
+        *size = Subset(w as u16).size() as u16;
     }
 }
 

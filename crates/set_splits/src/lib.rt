@@ -9,12 +9,12 @@ ghost use Rattle.set_splits.specs.laws.PairSums.{PairAsked, pair_from};
 ghost use Rattle.set_splits.specs.laws.BestSplit.{BestSplits};
 ghost use Rattle.set_splits.specs.laws.FreeParts.{FreePart, FreeParts, none_empty, rest_costs};
 
-use lanes::{Four, FourNumbers, lanes_of, lesser_of};
+use lanes::{Four, lanes_of, lesser_of};
 use limits::Cost;
 use working_none::WORKING_NONE;
 
 // Four costs and four costs, added.
-fn sum_of(x: Four, y: Four) -> Four
+fn sum_of(x: Four<Cost>, y: Four<Cost>) -> Four<Cost>
     requires { FourLow x × FourLow y }
     ensures { result ≡ sum_four x y }
 {
@@ -27,7 +27,7 @@ fn sum_of(x: Four, y: Four) -> Four
 }
 
 // Whether at one of four sites both costs are finite.
-fn both_finite(x: Four, y: Four) -> bool
+fn both_finite(x: Four<Cost>, y: Four<Cost>) -> bool
     ensures { result ≡ both_finite x y }
 {
     ((x.a < WORKING_NONE) & (y.a < WORKING_NONE))
@@ -37,7 +37,7 @@ fn both_finite(x: Four, y: Four) -> bool
 }
 
 // The four costs from entry `at` on: those of the set at / 4.
-fn costs_from(by_set: &[Cost], at: usize) -> Four
+fn costs_from(by_set: &[Cost], at: usize) -> Four<Cost>
     requires { (at + 4 ≤ length by_set.now) × (at < max_subsets * 4) }
     ensures { result ≡ costs_from by_set.now at }
 {
@@ -50,7 +50,7 @@ fn costs_from(by_set: &[Cost], at: usize) -> Four
 }
 
 // At each of four sites the lesser of two splits of a set: its lowest station is with `rest`, or with y. Each set is given by its first entry.
-fn pair_sums(by_set: &[Cost], y: usize, rest: usize, lowest: usize) -> Four
+fn pair_sums(by_set: &[Cost], y: usize, rest: usize, lowest: usize) -> Four<Cost>
     requires { PairAsked by_set.now y rest lowest }
     ensures { result ≡ pair_from by_set.now y rest lowest }
 {
@@ -61,7 +61,7 @@ fn pair_sums(by_set: &[Cost], y: usize, rest: usize, lowest: usize) -> Four
 
 // Of each of four sites, the least of the cell of the set w and of its splits into two parts. They are tried in pairs, by the parts of w without its
 // lowest station. Where the first split has at each site a part that is "none", so has every other one, and they are not tried.
-fn least_splits(by_set: &[Cost], w: usize) -> Four
+fn least_splits(by_set: &[Cost], w: usize) -> Four<Cost>
     requires { FourCosts by_set.now w × (0 < w) }
     ensures { BestSplits (set_costs by_set.now) w result }
 {
@@ -84,7 +84,7 @@ fn least_splits(by_set: &[Cost], w: usize) -> Four
 }
 
 // Whether a station of the set w is heard at each of four sites.
-fn meets_all(w: usize, heard: FourNumbers) -> bool {
+fn meets_all(w: usize, heard: Four<usize>) -> bool {
     ((w & heard.a) > 0) & ((w & heard.b) > 0) & ((w & heard.c) > 0) & ((w & heard.d) > 0)
 }
 
@@ -105,11 +105,11 @@ fn free_part(by_set: &[Cost], w: usize, heard: usize, j: usize) -> usize
 }
 
 // These at four sites.
-fn free_parts(by_set: &[Cost], w: usize, heard: FourNumbers) -> FourNumbers
+fn free_parts(by_set: &[Cost], w: usize, heard: Four<usize>) -> Four<usize>
     requires { FourCosts by_set.now w }
     ensures { FreeParts (set_costs by_set.now) w result }
 {
-    FourNumbers {
+    Four {
         a: free_part(by_set, w, heard.a, 0),
         b: free_part(by_set, w, heard.b, 1),
         c: free_part(by_set, w, heard.c, 2),
@@ -118,7 +118,7 @@ fn free_parts(by_set: &[Cost], w: usize, heard: FourNumbers) -> FourNumbers
 }
 
 // Whether none of four parts is empty.
-fn none_empty(parts: FourNumbers) -> bool
+fn none_empty(parts: Four<usize>) -> bool
     ensures { result ≡ none_empty parts }
 {
     (0 < parts.a) & (0 < parts.b) & (0 < parts.c) & (0 < parts.d)
@@ -133,7 +133,7 @@ fn rest_cost(by_set: &[Cost], w: usize, part: usize, j: usize) -> Cost
 }
 
 // These at four sites.
-fn rest_costs(by_set: &[Cost], w: usize, parts: FourNumbers) -> Four
+fn rest_costs(by_set: &[Cost], w: usize, parts: Four<usize>) -> Four<Cost>
     requires { FourCosts by_set.now w × FreeParts (set_costs by_set.now) w parts }
     ensures { result ≡ rest_costs (set_costs by_set.now) w parts }
 {
@@ -147,7 +147,7 @@ fn rest_costs(by_set: &[Cost], w: usize, parts: FourNumbers) -> Four
 
 // Of each of four sites, the least of the cell of the set w and of its splits. Where a station of w is heard at each of them, the other stations cost as
 // much as all, and no split is tried. `heard` says which stations are.
-pub fn best_splits(by_set: &[Cost], w: usize, heard: FourNumbers) -> Four
+pub fn best_splits(by_set: &[Cost], w: usize, heard: Four<usize>) -> Four<Cost>
     requires { FourCosts by_set.now w × (0 < w) }
     ensures { BestSplits (set_costs by_set.now) w result }
 {

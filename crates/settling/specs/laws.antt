@@ -6,3 +6,4 @@ pub mod LowerFour
 pub mod Lowered
 pub mod ByIndex
 pub mod Settling
+pub mod Legs

@@ -11,8 +11,8 @@ ghost use Rattle.shares.specs.SharesOf.{share_tables, sharing_of};
 use answer::Sharing;
 use file_shares::share_file;
 use lent_tables::FurtherLengths;
-use limits::Cost;
-use opener::{Loaded, open_sheet};
+use limits::{Cost, Counts};
+use opener::open_sheet;
 
 // The sheet is opened, and the file is read against the tables that hold it and divided.
 pub fn share_plan(
@@ -32,13 +32,8 @@ pub fn share_plan(
         run (stated_sharing result) after ≡ sharing_of sheet.now file.now before }
 {
     let further = FurtherLengths::of_shares(marks.len(), shares.len());
-    let opened = open_sheet(sheet, starts, ends, weights, landings, further);
-    match opened {
-        Loaded::Refused(refusal) => Sharing::Refused(refusal),
-        Loaded::Sheet { n, k, arcs } => {
-            share_file(
-                file, n, k, arcs, starts, ends, weights, landings, marks, shares,
-            )
-        }
-    }
+    let Counts { n, k, arcs } = open_sheet(sheet, starts, ends, weights, landings, further)?;
+    share_file(
+        file, n, k, arcs, starts, ends, weights, landings, marks, shares,
+    )
 }

@@ -5,22 +5,22 @@ ghost use Rattle.std.specs.Prelude.{◌≡◌, ◌+◌, ◌*◌, ◌<◌, ◌≤
 ghost use Rattle.limits.specs.Limits.{max_nodes, max_subsets};
 ghost use Rattle.order_ranges.specs.laws.Ranges.{Ordered, OneSize, entry_of};
 ghost use Rattle.working_none.specs.laws.Low.{AllLow};
-ghost use Rattle.lanes.specs.laws.Four.{nth, nth_number};
+ghost use Rattle.lanes.specs.laws.Four.{nth};
 ghost use Rattle.lanes.specs.laws.WriteFour.{write_rows};
 ghost use Rattle.set_splits.specs.laws.FourCosts.{rows_at};
 ghost use Rattle.splits.specs.laws.FourRows.{cells_at, Rows, RowsTaken};
 ghost use Rattle.splits.specs.laws.SplitRows.{FourSplit, SplitTo};
 
 use finite_sites::{four_finite, next_finite};
-use lanes::{Four, FourNumbers, set_lanes};
+use lanes::{Four, set_lanes};
 use limits::Cost;
 use set_splits::best_splits;
 
 // The cells of four sites and the set w, in a table with so many cells for each site.
-fn read_rows(cells: &[Cost], size: usize, rows: FourNumbers, w: usize) -> Four
+fn read_rows(cells: &[Cost], size: usize, rows: Four<usize>, w: usize) -> Four<Cost>
     requires { (rows.a * size + w < length cells.now) × (rows.b * size + w < length cells.now)
         × (rows.c * size + w < length cells.now) × (rows.d * size + w < length cells.now) }
-    ensures { result ≡ rows_at (cells_at cells.now size (nth_number rows)) w }
+    ensures { result ≡ rows_at (cells_at cells.now size (nth rows)) w }
 {
     Four {
         a: cells[rows.a * size + w],
@@ -31,10 +31,10 @@ fn read_rows(cells: &[Cost], size: usize, rows: FourNumbers, w: usize) -> Four
 }
 
 // They are written; where two of the sites are one, the later value counts.
-fn write_rows(cells: &mut [Cost], size: usize, rows: FourNumbers, w: usize, four: Four)
+fn write_rows(cells: &mut [Cost], size: usize, rows: Four<usize>, w: usize, four: Four<Cost>)
     requires { (rows.a * size + w < length cells.old) × (rows.b * size + w < length cells.old)
         × (rows.c * size + w < length cells.old) × (rows.d * size + w < length cells.old) }
-    ensures { cells.new ≡ write_rows size (nth_number rows) w (nth four) cells.old }
+    ensures { cells.new ≡ write_rows size (nth rows) w (nth four) cells.old }
 {
     cells[rows.a * size + w] = four.a;
     cells[rows.b * size + w] = four.b;
@@ -43,30 +43,24 @@ fn write_rows(cells: &mut [Cost], size: usize, rows: FourNumbers, w: usize, four
 }
 
 // The cells of four sites, set by set: four for each set.
-fn take_rows(cells: &[Cost], size: usize, rows: FourNumbers, by_set: &mut [Cost])
-    requires { Rows cells.now size (nth_number rows) × (size * 4 ≤ length by_set.old) }
-    ensures { RowsTaken cells.now size (nth_number rows) size by_set.old by_set.new }
+fn take_rows(cells: &[Cost], size: usize, rows: Four<usize>, by_set: &mut [Cost])
+    requires { Rows cells.now size (nth rows) × (size * 4 ≤ length by_set.old) }
+    ensures { RowsTaken cells.now size (nth rows) size by_set.old by_set.new }
 {
-    let mut w = 0;
-    while w < size {
+    for w in 0..size {
         set_lanes(by_set, w, read_rows(cells, size, rows, w));
-        w += 1;
     }
 }
 
 // The landing sets of four sites: the stations that are heard there, and the flag of a sender, which is no station.
-fn heard_at(landings: &[u16], sites: FourNumbers) -> FourNumbers
+fn heard_at(landings: &[u16], sites: Four<usize>) -> Four<usize>
     requires { (sites.a < length landings.now) × (sites.b < length landings.now) × (sites.c < length landings.now) × (sites.d < length landings.now) }
 {
-    let a = sites.a;
-    let b = sites.b;
-    let c = sites.c;
-    let d = sites.d;
-    FourNumbers {
-        a: landings[a] as usize,
-        b: landings[b] as usize,
-        c: landings[c] as usize,
-        d: landings[d] as usize,
+    Four {
+        a: landings[sites.a] as usize,
+        b: landings[sites.b] as usize,
+        c: landings[sites.c] as usize,
+        d: landings[sites.d] as usize,
     }
 }
 
@@ -75,23 +69,21 @@ fn heard_at(landings: &[u16], sites: FourNumbers) -> FourNumbers
 fn split_four(
     sets: &[u16],
     size: usize,
-    rows: FourNumbers,
-    heard: FourNumbers,
+    rows: Four<usize>,
+    heard: Four<usize>,
     first: usize,
     last: usize,
     cells: &mut [Cost],
     by_set: &mut [Cost],
 )
     requires { Ordered (entry_of sets.now) (length sets.now) size × OneSize (entry_of sets.now) (length sets.now) first last
-        × (0 < first) × Rows cells.old size (nth_number rows) × (size * 4 ≤ length by_set.old) }
-    ensures { FourSplit (entry_of sets.now) first last size (nth_number rows) cells.old cells.new }
+        × (0 < first) × Rows cells.old size (nth rows) × (size * 4 ≤ length by_set.old) }
+    ensures { FourSplit (entry_of sets.now) first last size (nth rows) cells.old cells.new }
 {
     take_rows(cells, size, rows, by_set);
-    let mut position = first;
-    while position < last {
+    for position in first..last {
         let w = sets[position] as usize;
         write_rows(cells, size, rows, w, best_splits(by_set, w, heard));
-        position += 1;
     }
 }
 
@@ -112,12 +104,11 @@ pub fn split_rows(
         × (size * 4 ≤ length by_set.old) × (n ≤ length landings.now) }
     ensures { SplitTo (entry_of sets.now) first last n size n cells.old cells.new }
 {
-    let mut v = next_finite(cells, size, n, 0);
-    while v < n {
+    let mut from = 0;
+    while let Some(v) = next_finite(cells, size, n, from) {
         let four = four_finite(cells, size, n, v);
-        let end = four.d + 1;
         let heard = heard_at(landings, four);
         split_four(sets, size, four, heard, first, last, cells, by_set);
-        v = next_finite(cells, size, n, end);
+        from = four.d + 1;
     }
 }

@@ -7,7 +7,7 @@ ghost use Rattle.limits.specs.Limits.{max_terminals};
 ghost use Rattle.subset.specs.Sets.{full, single, has, is_part, rest, union};
 
 // A set of stations, as its number.
-#[derive(Clone, Copy)]
+#[derive(Clone, Copy, PartialEq, Eq)]
 pub struct Subset(pub u16);
 
 impl Subset {

@@ -36,10 +36,8 @@ impl Choice {
         if self.before < without {
             return Choice {
                 stations: highest,
-                size: self.size,
                 count: without,
-                before: self.before,
-                chosen: self.chosen,
+                ..self
             };
         }
         Choice {

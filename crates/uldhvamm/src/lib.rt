@@ -15,7 +15,7 @@ ghost use Rattle.c_values.specs.Values.{Gives};
 ghost use Rattle.uldhvamm.specs.Interface.{interface};
 ghost use Rattle.uldhvamm.specs.Returned.{call, call_of};
 
-use c_values::{give, give_enquiry, give_sharing};
+use c_values::give;
 use engine::planning::plan_sheet;
 use enquirer::{best_sender, cell};
 use limits::Cost;
@@ -102,7 +102,7 @@ pub extern "C" fn uldhvamm_shares(
         call result answer.new after ≡ call_of (sharing_of sheet.now file.now before) answer.old }
 {
     let sent = share_plan(sheet, file, starts, ends, prices, landings, marks, shares);
-    give_sharing(sent, answer)
+    give(sent, answer)
 }
 
 // The enquirer: the cell for a site and a subset.
@@ -118,7 +118,7 @@ pub extern "C" fn uldhvamm_cell(
     ensures { Gives (cell_answer cells.now sites stations site subset) result answer.old answer.new }
 {
     let sent = cell(cells, sites, stations, site, subset);
-    give_enquiry(sent, answer)
+    give(sent, answer)
 }
 
 // The enquirer: the best sender of a subset, by the landing sets.
@@ -135,5 +135,5 @@ pub extern "C" fn uldhvamm_best_sender<'a>(
         answer.old answer.new }
 {
     let sent = best_sender(cells, landings, sites, stations, subset);
-    give_enquiry(sent, answer)
+    give(sent, answer)
 }

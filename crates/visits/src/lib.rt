@@ -7,16 +7,22 @@ ghost use Rattle.working_none.specs.laws.Low.{AllLow};
 ghost use Rattle.settling.specs.laws.LowerFour.{LoweredAt};
 ghost use Rattle.turn_table.specs.laws.Entries.{turn_entries};
 ghost use Rattle.lanes.specs.laws.Four.{FourSmall};
-ghost use Rattle.settling.specs.laws.ByIndex.{SomeArcs};
-ghost use Rattle.visits.specs.laws.ByIndex.{LoweredByIndex};
+ghost use Rattle.settling.specs.laws.Legs.{SomeLegs};
+ghost use Rattle.visits.specs.laws.ByIndex.{LoweredByLegs};
 
 use lanes::{Four, lanes_of};
 use limits::Cost;
-use settling::{along, lower, next_falling};
-use turn_table::{NO_TURN, enter, sooner, turn_key};
+use settling::{Legs, along, lower};
+use turn_table::{NO_TURN, Round, enter, turn_key};
 
 // Each cell of site u that is above what a leg gives falls to it, and the site has a turn, which is given back.
-fn lower_in_turn(round: u8, u: usize, by: Four, lanes: &mut [Cost], turns: &mut [u64]) -> u64
+fn lower_in_turn(
+    round: Round,
+    u: usize,
+    by: Four<Cost>,
+    lanes: &mut [Cost],
+    turns: &mut [u64],
+) -> u64
     requires { (length turns.old ≡ turn_entries) × (u < max_nodes) × (u * 4 + 4 ≤ length lanes.old) × AllLow lanes.old × FourSmall by }
     ensures { LoweredAt u by lanes.old lanes.new }
 {
@@ -28,33 +34,19 @@ fn lower_in_turn(round: u8, u: usize, by: Four, lanes: &mut [Cost], turns: &mut 
 
 // The legs that end at site v, by the index: where one gives less, the cells of its start fall. The soonest turn that a start has for it is given back, or
 // NO_TURN.
-pub fn visit(
-    starts: &[u16],
-    weights: &[u32],
-    index: &[u16],
-    places: &[u16],
-    n: usize,
-    round: u8,
-    v: usize,
-    lanes: &mut [Cost],
-    turns: &mut [u64],
-) -> u64
-    requires { (length turns.old ≡ turn_entries) × (v < n)
-        × SomeArcs n starts.now weights.now index.now places.now lanes.old }
-    ensures { LoweredByIndex n starts.now weights.now index.now places.now
-        lanes.old lanes.new }
+pub fn visit(legs: Legs, round: Round, v: usize, lanes: &mut [Cost], turns: &mut [u64]) -> u64
+    requires { (length turns.old ≡ turn_entries) × (v < legs.n) × SomeLegs legs lanes.old }
+    ensures { LoweredByLegs legs.entry lanes.old lanes.new }
 {
     let here = lanes_of(lanes, v);
-    let end = places[v + 1] as usize;
-    let first = places[v] as usize;
+    let end = legs.places[v + 1] as usize;
+    let mut from = legs.places[v] as usize;
     let mut soon = NO_TURN;
-    let mut i = next_falling(starts, weights, index, here, first, end, lanes);
-    while i < end {
-        let e = index[i] as usize;
-        let start = starts[e] as usize;
-        let by = along(here, weights[e]);
-        soon = sooner(lower_in_turn(round, start, by, lanes, turns), soon);
-        i = next_falling(starts, weights, index, here, i + 1, end, lanes);
+    while let Some(i) = legs.next_falling(here, from, end, lanes) {
+        let e = legs.index[i] as usize;
+        let by = along(here, legs.weights[e]);
+        soon = lower_in_turn(round, legs.starts[e] as usize, by, lanes, turns).min(soon);
+        from = i + 1;
     }
     soon
 }

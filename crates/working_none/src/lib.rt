@@ -11,17 +11,21 @@ use limits::Cost;
 // Above every total; two of them, added, are below half of what a cell can hold.
 pub const WORKING_NONE: Cost = 1_073_741_823;
 
+// A cell of the search as it stands in the table.
+fn finished(cost: Cost) -> Cost
+    ensures { result ≡ finished cost }
+{
+    if cost == WORKING_NONE {
+        return limits::NO_COST;
+    }
+    cost
+}
+
 // Each "none" of the search becomes the table's.
 pub fn finish(cells: &mut [Cost])
     ensures { cells.new ≡ map (λ i. finished (entry cells.old i)) (numbers 0 (length cells.old)) }
 {
-    let mut i = 0;
-    while i < cells.len() {
-        let mut cost = cells[i];
-        if cost == WORKING_NONE {
-            cost = limits::NO_COST;
-        }
-        cells[i] = cost;
-        i += 1;
+    for cost in cells.iter_mut() {
+        *cost = finished(*cost);
     }
 }

@@ -6,8 +6,8 @@ use Rattle.std.proofs.Math.Decide.{dec_lt}
 use Rattle.lent_tables.specs.SheetTables.{SheetTables}
 use Rattle.order_ranges.specs.laws.Ranges.{Ordered, OneSize, Outside}
 use Rattle.cost_table.specs.Cells.{cell_in}
-use Rattle.lanes.specs.declared.FourNumbers.{FourNumbers}
-use Rattle.lanes.specs.laws.Four.{nth_number, four_from, from_nth, below_four}
+use Rattle.lanes.specs.declared.Four.{Four}
+use Rattle.lanes.specs.laws.Four.{nth, four_from, from_nth, below_four}
 use Rattle.lanes.specs.laws.WriteFour.{LaneOf, NoLane, lane_or_none, put_four}
 use Rattle.lanes.specs.laws.Columns.{ColumnsTaken, ColumnsGiven}
 use Rattle.working_none.specs.laws.Low.{entry}
@@ -78,14 +78,6 @@ four_closed {n} {m} {size} {t} {w} {by_end} {places} {before} {after} {lanes} {t
 -- the sets at four positions, the last one again past the end
 pub record NextFour (at : ℕ → ℕ) (p last : ℕ) (w : ℕ → ℕ) : Type 0 where
   pub each : (j : ℕ) → j < 4 → w j ≡ at (min (p + j) (last - 1))
-
-pub next_four : {at : ℕ → ℕ} {p last : ℕ} {four : FourNumbers} {r : FourNumbers} → p < last → four ≡ four_from p last
-    → (r.a ≡ at four.a) × (r.b ≡ at four.b) × (r.c ≡ at four.c) × (r.d ≡ at four.d) → NextFour at p last (nth_number r)
-next_four {at} {p} {last} {four} {r} l is (a, b, c, d) = record {
-  each = λ j s.
-      below_four (λ i. nth_number r i ≡ at (nth_number four i)) a b c d j s
-      ∙ ap at (ap (λ (f : FourNumbers). nth_number f j) is ∙ from_nth p last j l s);
-}
 
 -- the cells of each set at the positions from `first` up to p, and up to `last`, are closed over the arcs; the other cells stay
 pub record SetsClosed (n m size : ℕ) (t : SheetTables) (at : ℕ → ℕ) (first p last : ℕ) (before after : List ℕ) : Type 0 where

@@ -19,15 +19,6 @@ NoneTo l i = (j : ℕ) → j < i → working_none ≤ entry l j
 abbrev pub AllNone : List ℕ → Type 0
 AllNone l = NoneTo l (length l)
 
--- one entry more, tested
-pub none_next : (found : Bool) (l : List ℕ) (i : ℕ) → (found ≡ false → NoneTo l i) → found || ltb (entry l i) working_none ≡ false → NoneTo l (i + 1)
-none_next true l i none e = absurd (true≢false e)
-none_next false l i none e = λ j less. go j less (ℕ_discrete j i)
-  where
-    go : (j : ℕ) → j < i + 1 → Dec (j ≡ i) → working_none ≤ entry l j
-    go j less (yes q) = omega (arith, ltb-false (entry l i) working_none e, ap (entry l) q)
-    go j less (no ne) = none refl j (omega arith)
-
 -- where the cells of four sets are all "none", no arc gives less
 pub none_closed : {n m size : ℕ} {t : SheetTables} {w : ℕ → ℕ} {by_end places cells lanes taken : List ℕ} → Tables n m size t by_end places cells lanes
     → ((j : ℕ) → j < 4 → w j < size) → ColumnsTaken size w cells n lanes taken → AllNone taken → FourClosed n m size t w cells cells

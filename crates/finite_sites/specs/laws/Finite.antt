@@ -5,8 +5,8 @@ use Rattle.std.specs.Prelude.{ℕ, suc, ◌+◌, ◌≤◌, ◌<◌, ◌≡◌, 
 use Rattle.std.proofs.Common.{ap, ◌∙◌, arith, pow-suc, pow_mono}
 use Rattle.std.proofs.Math.Decide.{ℕ_discrete, dec_lt}
 use Rattle.subset.specs.Sets.{single}
-use Rattle.lanes.specs.declared.FourNumbers.{FourNumbers}
-use Rattle.lanes.specs.laws.Four.{nth_number, below_four}
+use Rattle.lanes.specs.declared.Four.{Four}
+use Rattle.lanes.specs.laws.Four.{nth, below_four}
 use Rattle.working_none.specs.laws.WorkingNone.{working_none}
 
 -- ---- one node
@@ -22,9 +22,6 @@ pub record LookedAt (f : ℕ → ℕ) (one : ℕ) : Type 0 where
   pub none : (i : ℕ) → i < next → working_none ≤ f (single i)
 
 module _ {f : ℕ → ℕ} where
-  pub looked_none : LookedAt f 1
-  looked_none = record { next = 0; is = refl; none = λ i l. absurd (omega arith) }
-
   pub looked_next : {one : ℕ} → LookedAt f one → working_none ≤ f one → LookedAt f (one + one)
   looked_next {one} L high = record {
     next = suc L.next;
@@ -63,47 +60,3 @@ pub record FourFinite (c : ℕ → ℕ → ℕ) (size n v : ℕ) (r : ℕ → �
   pub high : (j : ℕ) → j < 4 → r j ≤ r 3
   pub within : r 3 < n
   pub none : (u : ℕ) → v ≤ u → u ≤ r 3 → ((j : ℕ) → j < 4 → r j ≢ u) → NoTerminal (c u) size
-
-module _ {c : ℕ → ℕ → ℕ} {size n : ℕ} where
-  pub between_none : {from : ℕ} → from ≤ n → NoneBetween c size n from from
-  between_none l = record { onward = omega arith; within = l; none = λ u a b. absurd (omega arith) }
-
-  pub between_next : {from v : ℕ} → NoneBetween c size n from v → v < n → NoTerminal (c v) size → NoneBetween c size n from (v + 1)
-  between_next {from} {v} D l none = record {
-    onward = omega (arith, D.onward);
-    within = omega arith;
-    none = λ u a b. go u a b (ℕ_discrete u v);
-  }
-    where
-      go : (u : ℕ) → from ≤ u → u < v + 1 → Dec (u ≡ v) → NoTerminal (c u) size
-      go u a b (yes z) i small = omega (arith, none i small, ap (λ (x : ℕ). c x (single i)) z)
-      go u a b (no ne) i small = D.none u a (omega arith) i small
-
-  pub next_later : {v r : ℕ} → NoneBetween c size n (v + 1) r → r < n → NextFinite c size n v r
-  next_later D l = record { onward = omega (arith, D.onward); within = l; none = λ u a b. D.none u (omega arith) b }
-
-  pub next_same : {v : ℕ} → v < n → NextFinite c size n v v
-  next_same l = record { onward = omega arith; within = l; none = λ u a b. absurd (omega arith) }
-
-  pub four_finite_lem : {v : ℕ} {four : FourNumbers} → four.a ≡ v → NextFinite c size n v four.b → NextFinite c size n four.b four.c
-      → NextFinite c size n four.c four.d → FourFinite c size n v (nth_number four)
-  four_finite_lem {v} {four} is B C D = record {
-    low = below_four (λ j. v ≤ nth_number four j) (omega arith) B.onward (omega (arith, B.onward, C.onward))
-        (omega (arith, B.onward, C.onward, D.onward));
-    high = below_four (λ j. nth_number four j ≤ four.d) (omega (arith, B.onward, C.onward, D.onward)) (omega (arith, C.onward, D.onward))
-        D.onward (omega arith);
-    within = D.within;
-    none = λ u a b apart. go u a b apart (dec_lt u four.b) (dec_lt u four.c);
-  }
-    where
-      go : (u : ℕ) → v ≤ u → u ≤ four.d → ((j : ℕ) → j < 4 → nth_number four j ≢ u) → Dec (u < four.b) → Dec (u < four.c) → NoTerminal (c u) size
-      go u a b apart (yes l) d =
-          let first : four.a ≢ u = apart 0 (omega arith) in
-          B.none u (omega arith) l
-      go u a b apart (no h) (yes l) =
-          let second : four.b ≢ u = apart 1 (omega arith) in
-          C.none u (omega arith) l
-      go u a b apart (no h) (no k) =
-          let third : four.c ≢ u = apart 2 (omega arith) in
-          let fourth : four.d ≢ u = apart 3 (omega arith) in
-          D.none u (omega arith) (omega arith)

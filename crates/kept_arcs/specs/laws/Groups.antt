@@ -43,16 +43,6 @@ pub record KeptGroups (starts weights list places : List ℕ) (v count : ℕ) (k
       → (p : ℕ) × (entry begins u ≤ p) × (p < entry begins (u + 1)) × Covers starts weights kept (entry list j) p
 
 module _ {starts weights list places : List ℕ} where
-  pub groups_none : (kept begins : List ℕ) → 0 < length begins → KeptGroups starts weights list places 0 0 kept (set begins 0 0)
-  groups_none kept begins some = record {
-    zero = get_or-set_same begins 0 0 0 some;
-    here = get_or-set_same begins 0 0 0 some;
-    low = λ u l. let z : u ≡ 0 = omega arith in omega (arith, ap (entry (set begins 0 0)) z, get_or-set_same begins 0 0 0 some);
-    below = λ u l. let z : u ≡ 0 = omega arith in omega (arith, ap (entry (set begins 0 0)) z, get_or-set_same begins 0 0 0 some);
-    members = λ u p l. absurd (omega arith);
-    covered = λ u j l. absurd (omega arith);
-  }
-
   pub groups_next : {v count r : ℕ} {kept kept' : List ℕ} (begins : List ℕ) → v + 1 < length begins → KeptGroups starts weights list places v count kept begins
       → KeptTo starts weights list (entry places v) (entry places (v + 1)) count r kept kept'
       → KeptGroups starts weights list places (v + 1) r kept' (set begins (v + 1) r)
@@ -112,13 +102,6 @@ module _ {starts weights list places : List ℕ} where
 pub record KeptIndex (starts weights list places : List ℕ) (n : ℕ) (kept begins : List ℕ) : Type 0 where
   pub count : ℕ
   pub groups : KeptGroups starts weights list places n count kept begins
-
-pub groups_all : {starts weights list places kept begins : List ℕ} {n v count : ℕ} → v ≡ n → KeptGroups starts weights list places v count kept begins
-    → KeptIndex starts weights list places n kept begins
-groups_all {starts} {weights} {list} {places} {kept} {begins} {n} {v} {count} e G = record {
-  count = count;
-  groups = subst (λ (u : ℕ). KeptGroups starts weights list places u count kept begins) e G;
-}
 
 -- each kept entry is in a group
 pub record InKeptGroup (begins : List ℕ) (n p : ℕ) : Type 0 where

@@ -88,28 +88,6 @@ module _ (starts weights before : List ℕ) (e first count : ℕ) where
           );
         }
 
-  -- arc e is kept behind the others
-  pub kept_behind : first ≤ count → count < length before → KeptOne starts weights e first count (count + 1) before (set before count e)
-  kept_behind low on = record {
-    same_length = length-set before count e;
-    more = omega arith;
-    most = omega arith;
-    others = λ p l. there p (omega arith);
-    each = λ p a b. at p b (ℕ_discrete p count);
-    better = λ p a b. record { same = ap (entry starts) (there p b); light = omega (arith, ap (entry weights) (there p b)) };
-    own = (count, low, omega arith, record { same = ap (entry starts) here; light = omega (arith, ap (entry weights) here) });
-  }
-    where
-      here : entry (set before count e) count ≡ e
-      here = get_or-set_same before count e 0 on
-
-      there : (p : ℕ) → p < count → entry (set before count e) p ≡ entry before p
-      there p l = get_or-set_other before count p e 0 (λ q. omega arith)
-
-      at : (p : ℕ) → p < count + 1 → Dec (p ≡ count) → ((p < count) × (entry (set before count e) p ≡ entry before p)) ⊎ (entry (set before count e) p ≡ e)
-      at p l (yes q) = inr (ap (entry (set before count e)) q ∙ here)
-      at p l (no ne) = inl (omega arith, there p (omega arith))
-
 -- ---- the arcs of a part of a list
 
 -- the arcs at the places from `from` up to i of `list` are kept by the entries from `first` up to `count`
@@ -123,17 +101,6 @@ pub record KeptTo (starts weights list : List ℕ) (from i first count : ℕ) (b
   pub covered : (j : ℕ) → from ≤ j → j < i → (p : ℕ) × (first ≤ p) × (p < count) × Covers starts weights after (entry list j) p
 
 module _ {starts weights list : List ℕ} {from first : ℕ} {before : List ℕ} where
-  pub kept_none : KeptTo starts weights list from from first first before before
-  kept_none = record {
-    same_length = refl;
-    onward = omega arith;
-    more = omega arith;
-    most = omega arith;
-    others = λ p l. refl;
-    members = λ p a b. absurd (omega arith);
-    covered = λ j a b. absurd (omega arith);
-  }
-
   pub kept_next : {i count r : ℕ} {mid after : List ℕ} → KeptTo starts weights list from i first count before mid
       → KeptOne starts weights (entry list i) first count r mid after → KeptTo starts weights list from (i + 1) first r before after
   kept_next {i} {count} {r} {mid} {after} K O = record {

@@ -8,28 +8,16 @@ use Rattle.lanes.proofs.give_columns.Goals as goal
 pub loop-v-init : goal.loop-v-init
 loop-v-init c = give_none
 
-pub overflow_sub-v : goal.overflow_sub-v
-overflow_sub-v c = omega (arith, c.loop-v-test.true)
-
-pub lanes_of-requires : goal.lanes_of-requires
-lanes_of-requires c = omega (arith, c.loop-v-test.true, c.loop-v.invariant.within, c.requires.1)
-
 pub write_four-requires : goal.write_four-requires
 write_four-requires c =
     let p = c.requires in
-    let on : c.loop-v.v - 1 < c.args.n = omega (arith, c.loop-v-test.true, c.loop-v.invariant.within) in
-    (omega (arith, p.0, row_fits (c.loop-v.v - 1) c.args.n c.args.size on, c.loop-v.invariant.same_length), p.2 0 (omega arith), p.2 1 (omega arith), p.2 2 (omega arith), p.2 3 (omega arith))
-
-pub loop-v-smaller : goal.loop-v-smaller
-loop-v-smaller c = omega (arith, c.loop-v-test.true)
+    let on : c.loop-v.v - 1 < c.args.n = omega arith in
+    (omega (arith, p.0, row_fits (c.loop-v.v - 1) c.args.n c.args.size on), p.2 0 (omega arith), p.2 1 (omega arith), p.2 2 (omega arith), p.2 3 (omega arith))
 
 pub loop-v-preserved : goal.loop-v-preserved
 loop-v-preserved c =
     let p = c.requires in
-    give_next p.2 c.loop-v-test.true p.0 c.loop-v.invariant c.lanes_of.ensures c.write_four.ensures
-
-pub shape_of-cells : goal.shape_of-cells
-shape_of-cells c = c.loop-v.invariant.same_length
+    give_next p.2 (omega arith) p.0 c.loop-v.invariant c.lanes_of.ensures c.write_four.ensures
 
 pub returns : goal.returns
-returns c = given_all (omega (arith, c.loop-v-test.false)) c.loop-v.invariant
+returns c = given_all (omega arith) c.loop-v.invariant

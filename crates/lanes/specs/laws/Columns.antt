@@ -12,7 +12,7 @@ use Rattle.lanes.specs.laws.WriteFour.{write_four, put_four, four_length, four_n
 -- ---- taken
 
 -- four values with the number v
-abbrev pub four_by : (ℕ → ℕ → ℕ) → ℕ → Four
+abbrev pub four_by : (ℕ → ℕ → ℕ) → ℕ → Four ℕ
 four_by x v = record { a = x v 0; b = x v 1; c = x v 2; d = x v 3 }
 
 -- the first v times four entries are x 0 0 to x 0 3, and so on
@@ -46,10 +46,10 @@ module _ {x : ℕ → ℕ → ℕ} {before : List ℕ} where
           ∙ four_node 4 v (λ i. i) (x v) mid (λ i l. l) fits j s ∙ here j s ∙ ap (λ (y : ℕ). x y j) (sym e)
       at u j l s (no ne) = four_other 4 v (λ i. i) (x v) mid (λ i l. l) fits u j s ne ∙ T.taken u j (omega arith) s
 
-  pub take_next : {v : ℕ} {f : Four} {mid after : List ℕ} → v * 4 + 3 < length mid → Taken x v before mid → f ≡ four_by x v
+  pub take_next : {v : ℕ} {f : Four ℕ} {mid after : List ℕ} → v * 4 + 3 < length mid → Taken x v before mid → f ≡ four_by x v
       → after ≡ write_four 4 v (λ j. j) (nth f) mid → Taken x (v + 1) before after
   take_next {v} {f} {mid} on T is new =
-      subst (Taken x (v + 1) before) (sym (new ∙ ap (λ (g : Four). write_four 4 v (λ j. j) (nth g) mid) is)) (take_more on T)
+      subst (Taken x (v + 1) before) (sym (new ∙ ap (λ (g : Four ℕ). write_four 4 v (λ j. j) (nth g) mid) is)) (take_more on T)
 
 -- ---- given back
 
@@ -93,12 +93,12 @@ module _ {size n : ℕ} {w : ℕ → ℕ} {lanes before : List ℕ} where
           ∙ ap (λ (z : ℕ). put_four w (cell_in lanes 4 z) y (cell_in before size z y)) (sym e)
       at u y a l s (no ne) = four_other size v w (cell_in lanes 4 v) mid small on u y s ne ∙ G.given u y (omega arith) l s
 
-  pub give_next : {v : ℕ} {f : Four} {mid after : List ℕ} → ((j : ℕ) → j < 4 → w j < size) → 0 < v → n * size ≤ length before
+  pub give_next : {v : ℕ} {f : Four ℕ} {mid after : List ℕ} → ((j : ℕ) → j < 4 → w j < size) → 0 < v → n * size ≤ length before
       → GivenFrom size w lanes n v before mid → f ≡ four_of lanes (v - 1) → after ≡ write_four size (v - 1) w (nth f) mid
       → GivenFrom size w lanes n (v - 1) before after
   give_next {v} {f} {mid} small some long G is new =
       let back : v ≡ v - 1 + 1 = omega arith in
-      subst (GivenFrom size w lanes n (v - 1) before) (sym (new ∙ ap (λ (g : Four). write_four size (v - 1) w (nth g) mid) is))
+      subst (GivenFrom size w lanes n (v - 1) before) (sym (new ∙ ap (λ (g : Four ℕ). write_four size (v - 1) w (nth g) mid) is))
       (give_more small (λ j s. omega (arith, small j s, row_fits (v - 1) n size (omega (arith, G.within)), G.same_length))
       (subst (λ (x : ℕ). GivenFrom size w lanes n x before mid) back G))
 

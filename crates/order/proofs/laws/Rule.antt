@@ -1,13 +1,14 @@
 -- The rule of the order (document 01, "Subsets"): it has 1,024 entries, each of 0 to 1,023 occurs once, no size is before a smaller one, and
 -- the numbers of one size rise.
 -- Assumes nothing.
-use Rattle.std.specs.Prelude.{ℕ, zero, suc, ◌+◌, ◌%◌, ◌/◌, ◌^◌, ◌≤◌, ◌<◌, ◌≡◌, refl, ◌⊎◌, [], ◌∷◌, length}
-use Rattle.std.proofs.Common.{sym, ap, ◌∙◌, subst, inl, inr, eq-or-lt_of_le, add-one, arith, shr_lt}
+use Rattle.std.specs.Prelude.{ℕ, zero, suc, ◌+◌, ◌%◌, ◌/◌, ◌^◌, ◌≤◌, ◌<◌, ◌≡◌, refl, ◌⊎◌, List, [], ◌∷◌, map, length, get_or}
+use Rattle.std.proofs.Common.{sym, ap, ◌∙◌, subst, inl, inr, eq-or-lt_of_le, zero-add, add-one, arith, ext_get_or, shr_lt}
 use Rattle.std.specs.Int.Count.{ones, ones_in, ones_step}
 use Rattle.std.proofs.lemmas.Nat.{ones-le}
 use Rattle.limits.specs.Limits.{max_terminals, max_subsets}
 use Rattle.lists.specs.Count.{count, count_position}
 use Rattle.lists.specs.Every.{every_at}
+use Rattle.lists.specs.Numbers.{numbers, length_values, get_d_values}
 use Rattle.lists.specs.Sorted.{sorted_at}
 use Rattle.order.specs.Order.{of_size, order_by, order, in_order}
 use Rattle.order.proofs.laws.BySize.{Before, once_order_by, length_order_by, every_order_by, sorted_order_by, same_order_by}
@@ -86,3 +87,17 @@ ones_in_lem (suc d) n h = ones_step n ∙ ap (λ (x : ℕ). n % 2 + x) (ones_in_
 pub computed : order_by (ones_in max_terminals) max_terminals ≡ order
 unfolding order
 computed = same_order_by (ones_in max_terminals) ones max_terminals (λ w h. sym (ones_in_lem max_terminals w h))
+
+-- a list is its entries, in their order
+entries : (l : List ℕ) (n : ℕ) → length l ≡ n → l ≡ map (λ i. get_or l i 0) (numbers 0 n)
+entries l n long =
+    ext_get_or 0 l (map at (numbers 0 n)) (long ∙ sym (length_values at 0 n))
+    (λ i h. sym (get_d_values at 0 n i 0 (omega arith) ∙ ap at (zero-add i)))
+  where
+    at : ℕ → ℕ
+    at i = get_or l i 0
+
+-- the subsets at the positions, one after the other, computed quickly
+pub listed : order_by (ones_in max_terminals) max_terminals ≡ map in_order (numbers 0 max_subsets)
+unfolding in_order
+listed = computed ∙ entries order max_subsets length_order

@@ -2,7 +2,7 @@
 -- or a part of one that stands before the range.
 -- Assumes nothing.
 use Rattle.std.specs.Prelude.{ℕ, ◌+◌, ◌≤◌, ◌<◌, ◌≡◌, ◌≢◌, ◌⊎◌, List, get_or, take}
-use Rattle.std.proofs.Common.{sym, ap, ◌∙◌, inl, inr, arith, get_or-take}
+use Rattle.std.proofs.Common.{sym, ap, ◌∙◌, subst, inl, inr, arith, get_or-take}
 use Rattle.std.proofs.Math.Decide.{dec_lt, ℕ_discrete}
 use Rattle.std.specs.Int.Count.{ones}
 use Rattle.subset.specs.Sets.{Part}
@@ -146,8 +146,10 @@ module _ {at : ℕ → ℕ} {m first : ℕ} where
       same = λ i j a b c d. S.each i a b ∙ sym (S.each j c d);
     }
 
-    pub size_end : m ≤ last → SizeEnd at m first last
-    size_end l = record { rising = S.rising; range = size_range; ends = inl (omega (arith, S.bound)) }
+    pub size_end : m ≤ last → SizeEnd at m first m
+    size_end l =
+        let end : last ≡ m = omega (arith, S.bound) in
+        subst (SizeEnd at m first) end (record { rising = S.rising; range = size_range; ends = inl end })
 
     pub size_other : {other : ℕ} → other ≡ ones (at last) → other ≢ size → SizeEnd at m first last
     size_other q ne = record {

@@ -17,6 +17,13 @@ pub record Room (r : Reading) (x : Record) : Type 0 where
   pub terminals : r.k ≤ max_terminals
   pub ok : RecordOk r.n r.k x
 
+-- the station of a landing is one of ten
+pub lands_one : (r : Reading) (x : Record) → Room r x → LandsOne x
+lands_one r (OneWay start end weight) room = tt
+lands_one r (BothWays start end weight) room = tt
+lands_one r (Landing terminal node) room = omega (arith, room.ok.0, room.terminals)
+lands_one r (Sender node) room = tt
+
 -- where a record is found, there is room for it
 pub room_found : (r : Reading) (s : List ℕ) (x : Record) → r.arcs ≤ max_arcs → r.k ≤ max_terminals → r.offset ≤ length s → length s < 2 ^ 64
     → Passed r.n r.k r.arcs (drop r.offset s) x → Room r x

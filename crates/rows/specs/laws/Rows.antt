@@ -71,10 +71,6 @@ module _ (a k : ℕ) (list part : List ℕ) (so_many : length part ≡ k) (fits 
       ∙ get_or-append-add part (drop k (drop a list)) j 0
       ∙ get_or-drop k (drop a list) j 0 ∙ get_or-drop a list (k + j) 0 ∙ ap (entry list) back
 
--- and places are small
-pub row_small : (v n size : ℕ) → v < n → n ≤ max_nodes → size ≤ max_subsets → (v * size + size ≤ n * size) × (n * size ≤ max_nodes * max_subsets)
-row_small v n size l few sets = (row_fits v n size l, mul-le-mul few sets)
-
 module _ (size : ℕ) (cells : List ℕ) (u : ℕ) where
   pub row_length : u * size + size ≤ length cells → length (row_of cells size u) ≡ size
   row_length fits = length-take-le size (drop (u * size) cells) (omega (arith, length-drop (u * size) cells))
@@ -94,9 +90,6 @@ same_row size u a b la lb each =
 -- ---- row by row
 
 module _ {R : ℕ → List ℕ → List ℕ → Type 0} {n size : ℕ} {before : List ℕ} where
-  pub rows_none : EachRow R n size 0 before before
-  rows_none = record { same_length = refl; done = λ u l. absurd (omega arith); left = λ u l on. refl }
-
   module _ {v : ℕ} {mid : List ℕ} (whole : length before ≡ n * size) (on : v < n) (S : EachRow R n size v before mid) where
     -- a row from one place to another has `size` cells
     k_is : v * size + size - v * size ≡ size
@@ -154,6 +147,3 @@ module _ {R : ℕ → List ℕ → List ℕ → Type 0} {n size : ℕ} {before :
             subst (λ (x : ℕ). R x (row_of before size x) (row_of (with_part (v * size) (v * size + size - v * size) mid row) size x)) (sym e)
             (subst₂ (R v) row_lent (sym here) holds)
         at u l (no ne) = subst (R u (row_of before size u)) (sym (others u (omega arith) ne)) (S.done u (omega arith))
-
-  pub rows_all : {v : ℕ} {after : List ℕ} → EachRow R n size v before after → v ≡ n → EachRow R n size n before after
-  rows_all {v} {after} S e = subst (λ (x : ℕ). EachRow R n size x before after) e S

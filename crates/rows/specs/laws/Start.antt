@@ -12,23 +12,11 @@ use Rattle.working_none.specs.laws.WorkingNone.{working_none}
 abbrev pub start_cell : (landings w : ℕ) → ℕ
 start_cell landings w = cond (eqb w 0) 0 (cond (is_part w landings) (cond (eqb (ones w) 1) 0 working_none) working_none)
 
--- by the tests
-module _ (landings w : ℕ) where
-  start_by : (a b c : Bool) → eqb w 0 ≡ a → is_part w landings ≡ b → eqb (ones w) 1 ≡ c
-      → cond a 0 (cond b (cond c 0 working_none) working_none) ≡ start_cell landings w
-  start_by a b c e f g = λ i. cond (sym e i) 0 (cond (sym f i) (cond (sym g i) 0 working_none) working_none)
-
-  pub start_empty : w ≡ 0 → 0 ≡ start_cell landings w
-  start_empty e = sym (ap (start_cell landings) e)
-
-  pub start_one : w ≢ 0 → is_part w landings ≡ true → ones w ≡ 1 → 0 ≡ start_cell landings w
-  start_one ne part one = start_by false true true (ne_eqb w 0 ne) part (eq-eqb (ones w) 1 one)
-
-  pub start_more : w ≢ 0 → is_part w landings ≡ true → ones w ≢ 1 → working_none ≡ start_cell landings w
-  start_more ne part more = start_by false true false (ne_eqb w 0 ne) part (ne_eqb (ones w) 1 more)
-
-  pub start_apart : w ≢ 0 → is_part w landings ≡ false → working_none ≡ start_cell landings w
-  start_apart ne apart = start_by false false (eqb (ones w) 1) (ne_eqb w 0 ne) apart refl
+-- a station that lands there
+start_one : (landings w : ℕ) → w ≢ 0 → is_part w landings ≡ true → ones w ≡ 1 → 0 ≡ start_cell landings w
+start_one landings w ne part one =
+    let (e, f, g) : (eqb w 0 ≡ false) × (is_part w landings ≡ true) × (eqb (ones w) 1 ≡ true) = (ne_eqb w 0 ne, part, eq-eqb (ones w) 1 one) in
+    λ i. cond (sym e i) 0 (cond (sym f i) (cond (sym g i) 0 working_none) working_none)
 
 pub start_landing : (landings i : ℕ) → T (has landings i) → start_cell landings (single i) ≡ 0
 start_landing landings i t =

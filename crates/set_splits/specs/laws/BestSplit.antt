@@ -225,16 +225,16 @@ module _ (f : ℕ → ℕ) (w : ℕ) where
 -- ---- at four nodes
 
 -- the least costs of w at four nodes, where the set y costs f j y at node j
-pub record BestSplits (f : ℕ → ℕ → ℕ) (w : ℕ) (best : Four) : Type 0 where
+pub record BestSplits (f : ℕ → ℕ → ℕ) (w : ℕ) (best : Four ℕ) : Type 0 where
   pub each : (j : ℕ) → j < 4 → BestSplit working_none (f j) w (nth best j)
 
 -- the pairs of splits by the parts above y have been tried at each of them
-pub record FourTried (f : ℕ → ℕ → ℕ) (w y : ℕ) (best : Four) : Type 0 where
+pub record FourTried (f : ℕ → ℕ → ℕ) (w y : ℕ) (best : Four ℕ) : Type 0 where
   pub within : y ≤ others w
   pub each : (j : ℕ) → j < 4 → Tried (f j) w y (nth best j)
 
 -- the lesser of a pair of splits at each of them, where the one side is y, or y and the lowest terminal, and `rest` are the others
-abbrev pub pair_sums : (f : ℕ → ℕ → ℕ) → (y rest lowest : ℕ) → Four
+abbrev pub pair_sums : (f : ℕ → ℕ → ℕ) → (y rest lowest : ℕ) → Four ℕ
 pair_sums f y rest lowest =
     less_four (sum_four (rows_at f y) (rows_at f (rest + lowest))) (sum_four (rows_at f (y + lowest)) (rows_at f rest))
 
@@ -244,13 +244,13 @@ pair_nth f y rest lowest =
     below_four (λ j. nth (pair_sums f y rest lowest) j ≡ min (f j y + f j (rest + lowest)) (f j (y + lowest) + f j rest)) refl refl refl refl
 
 module _ {f : ℕ → ℕ → ℕ} {w : ℕ} where
-  pub four_tried_none : {best : Four} → best ≡ rows_at f w → FourTried f w (others w) best
+  pub four_tried_none : {best : Four ℕ} → best ≡ rows_at f w → FourTried f w (others w) best
   four_tried_none is = record {
     within = omega arith;
-    each = λ j s. subst (Tried (f j) w (others w)) (sym (ap (λ (q : Four). nth q j) is ∙ rows_nth f w j s)) (tried_none (f j) w);
+    each = λ j s. subst (Tried (f j) w (others w)) (sym (ap (λ (q : Four ℕ). nth q j) is ∙ rows_nth f w j s)) (tried_none (f j) w);
   }
 
-  pub four_tried_next : {y : ℕ} {best sums best' : Four} → others w < y + y → sums ≡ pair_sums f y (others w - y) (w - others w)
+  pub four_tried_next : {y : ℕ} {best sums best' : Four ℕ} → others w < y + y → sums ≡ pair_sums f y (others w - y) (w - others w)
       → best' ≡ less_four sums best → FourTried f w y best → FourTried f w (bit_and (y - 1) (others w)) best'
   four_tried_next {y} {best} {sums} {best'} d is_sum is-best T = record {
     within = let lower = and_le_l (y - 1) (others w) in omega (arith, T.within);
@@ -260,19 +260,19 @@ module _ {f : ℕ → ℕ → ℕ} {w : ℕ} where
       value : (j : ℕ) → j < 4
           → nth best' j ≡ min (min (f j y + f j (others w - y + (w - others w))) (f j (y + (w - others w)) + f j (others w - y))) (nth best j)
       value j s =
-          ap (λ (q : Four). nth q j) is-best ∙ less_nth sums best j s
-          ∙ ap (λ (x : ℕ). min x (nth best j)) (ap (λ (q : Four). nth q j) is_sum ∙ pair_nth f y (others w - y) (w - others w) j s)
+          ap (λ (q : Four ℕ). nth q j) is-best ∙ less_nth sums best j s
+          ∙ ap (λ (x : ℕ). min x (nth best j)) (ap (λ (q : Four ℕ). nth q j) is_sum ∙ pair_nth f y (others w - y) (w - others w) j s)
 
-  pub four_tried_all : {y : ℕ} {best : Four} → y + y ≤ others w → FourTried f w y best → BestSplits f w best
+  pub four_tried_all : {y : ℕ} {best : Four ℕ} → y + y ≤ others w → FourTried f w y best → BestSplits f w best
   four_tried_all {y} {best} d T = record { each = λ j s. tried_all (f j) w working_none y (nth best j) d (T.each j s) }
 
   -- at each of them the first split has a part that is "none"
-  pub four_no_more : {best greater lowest : Four} → best ≡ rows_at f w → greater ≡ rows_at f (others w) → lowest ≡ rows_at f (w - others w)
+  pub four_no_more : {best greater lowest : Four ℕ} → best ≡ rows_at f w → greater ≡ rows_at f (others w) → lowest ≡ rows_at f (w - others w)
       → both_finite greater lowest ≡ false → BestSplits f w best
   four_no_more {best} {greater} {lowest} is is_Greater is-lowest fails = record {
     each = λ j s.
-        no_first (f j) w working_none (nth best j) (ap (λ (q : Four). nth q j) is ∙ rows_nth f w j s)
+        no_first (f j) w working_none (nth best j) (ap (λ (q : Four ℕ). nth q j) is ∙ rows_nth f w j s)
         (λ one other. none_finite greater lowest fails j s
-        (omega (arith, ap (λ (g : Four). nth g j) is_Greater, rows_nth f (others w) j s))
-        (omega (arith, ap (λ (g : Four). nth g j) is-lowest, rows_nth f (w - others w) j s)));
+        (omega (arith, ap (λ (g : Four ℕ). nth g j) is_Greater, rows_nth f (others w) j s))
+        (omega (arith, ap (λ (g : Four ℕ). nth g j) is-lowest, rows_nth f (w - others w) j s)));
   }

@@ -10,15 +10,15 @@ use Rattle.working_none.specs.laws.WorkingNone.{working_none}
 use Rattle.working_none.specs.laws.Low.{entry}
 
 -- four costs and four costs, added
-abbrev pub sum_four : (x y : Four) → Four
+abbrev pub sum_four : (x y : Four ℕ) → Four ℕ
 sum_four x y = record { a = x.a + y.a; b = x.b + y.b; c = x.c + y.c; d = x.d + y.d }
 
 -- the sums of costs that are not above "none" are small
-pub sum_small : {x y sum : Four} → FourLow x → FourLow y → sum ≡ sum_four x y → FourSmall sum
+pub sum_small : {x y sum : Four ℕ} → FourLow x → FourLow y → sum ≡ sum_four x y → FourSmall sum
 sum_small (a, b, c, d) (a', b', c', d') is = subst FourSmall (sym is) (omega arith, omega arith, omega arith, omega arith)
 
 -- the costs of the set w at four nodes, where f j has those of node j
-abbrev pub rows_at : (f : ℕ → ℕ → ℕ) → (w : ℕ) → Four
+abbrev pub rows_at : (f : ℕ → ℕ → ℕ) → (w : ℕ) → Four ℕ
 rows_at f w = record { a = f 0 w; b = f 1 w; c = f 2 w; d = f 3 w }
 
 pub rows_nth : (f : ℕ → ℕ → ℕ) (w j : ℕ) → j < 4 → nth (rows_at f w) j ≡ f j w
@@ -31,14 +31,14 @@ abbrev pub finite : (x y : ℕ) → Bool
 finite x y = ltb x working_none && ltb y working_none
 
 -- at one of four nodes both are
-abbrev pub both_finite : (x y : Four) → Bool
+abbrev pub both_finite : (x y : Four ℕ) → Bool
 both_finite x y = ((finite x.a y.a || finite x.b y.b) || finite x.c y.c) || finite x.d y.d
 
 finite_true : {x y : ℕ} → x < working_none → y < working_none → finite x y ≡ true
 finite_true {x} {y} l r = λ i. lt-ltb x working_none l i && lt-ltb y working_none r i
 
 -- where the test fails, at none of them
-pub none_finite : (x y : Four) → both_finite x y ≡ false → (j : ℕ) → j < 4 → nth x j < working_none → nth y j < working_none → ⊥
+pub none_finite : (x y : Four ℕ) → both_finite x y ≡ false → (j : ℕ) → j < 4 → nth x j < working_none → nth y j < working_none → ⊥
 none_finite x y fails = below_four (λ j. nth x j < working_none → nth y j < working_none → ⊥)
     (λ l r. (go (finite x.a y.a) (finite x.b y.b) (finite x.c y.c) (finite x.d y.d) fails).0 (finite_true l r))
     (λ l r. (go (finite x.a y.a) (finite x.b y.b) (finite x.c y.c) (finite x.d y.d) fails).1 (finite_true l r))
@@ -59,7 +59,7 @@ abbrev pub set_costs : List ℕ → (j w : ℕ) → ℕ
 set_costs list j w = cell_in list 4 w j
 
 -- the four costs from an entry on
-abbrev pub costs_from : List ℕ → ℕ → Four
+abbrev pub costs_from : List ℕ → ℕ → Four ℕ
 costs_from list at = record { a = entry list at; b = entry list (at + 1); c = entry list (at + 2); d = entry list (at + 3) }
 
 -- those of the set w are from entry 4 w on
@@ -78,6 +78,6 @@ pub whole_costs : {list : List ℕ} {v w : ℕ} → FourCosts list w → v ≡ w
 whole_costs {list} C e = subst (FourCosts list) (sym e) C
 
 -- what is asked where costs are added
-pub costs_low : {list : List ℕ} {w y : ℕ} {f : Four} → FourCosts list w → y ≤ w → f ≡ four_of list y → FourLow f
+pub costs_low : {list : List ℕ} {w y : ℕ} {f : Four ℕ} → FourCosts list w → y ≤ w → f ≡ four_of list y → FourLow f
 costs_low {list} {w} {y} C l is =
     subst FourLow (sym is) (C.low 0 y (omega arith) l, C.low 1 y (omega arith) l, C.low 2 y (omega arith) l, C.low 3 y (omega arith) l)

@@ -8,8 +8,7 @@ use Rattle.subset.specs.Sets.{Part}
 use Rattle.subset.specs.laws.Parts.{part_le, part_trans, difference_part}
 use Rattle.subset.specs.laws.Falling.{common_part}
 use Rattle.lanes.specs.declared.Four.{Four}
-use Rattle.lanes.specs.declared.FourNumbers.{FourNumbers}
-use Rattle.lanes.specs.laws.Four.{nth, nth_number, less_four, less_nth, FourSmall, below_four}
+use Rattle.lanes.specs.laws.Four.{nth, less_four, less_nth, FourSmall, below_four}
 use Rattle.set_splits.specs.laws.FourCosts.{rows_at, rows_nth, set_costs, FourCosts}
 use Rattle.set_splits.specs.laws.BestSplit.{BestSplits, free_part}
 
@@ -33,35 +32,35 @@ lowest_free f w heard nothing =
     }
 
 -- at each of four nodes
-pub record FreeParts (f : ℕ → ℕ → ℕ) (w : ℕ) (parts : FourNumbers) : Type 0 where
-  pub each : (j : ℕ) → j < 4 → FreePart (f j) w (nth_number parts j)
+pub record FreeParts (f : ℕ → ℕ → ℕ) (w : ℕ) (parts : Four ℕ) : Type 0 where
+  pub each : (j : ℕ) → j < 4 → FreePart (f j) w (nth parts j)
 
-pub free_le : {f : ℕ → ℕ → ℕ} {w : ℕ} {parts : FourNumbers} → FreeParts f w parts → (j : ℕ) → j < 4 → nth_number parts j ≤ w
-free_le {f} {w} {parts} F j s = part_le (nth_number parts j) w (F.each j s).within
+pub free_le : {f : ℕ → ℕ → ℕ} {w : ℕ} {parts : Four ℕ} → FreeParts f w parts → (j : ℕ) → j < 4 → nth parts j ≤ w
+free_le {f} {w} {parts} F j s = part_le (nth parts j) w (F.each j s).within
 
 -- none of four sets is empty
-abbrev pub none_empty : FourNumbers → Bool
+abbrev pub none_empty : Four ℕ → Bool
 none_empty x = ((ltb 0 x.a && ltb 0 x.b) && ltb 0 x.c) && ltb 0 x.d
 
-none_empty_lem : (x : FourNumbers) → none_empty x ≡ true → (j : ℕ) → j < 4 → 0 < nth_number x j
+none_empty_lem : (x : Four ℕ) → none_empty x ≡ true → (j : ℕ) → j < 4 → 0 < nth x j
 none_empty_lem x passes =
     let abcd : T (none_empty x) = true_fact passes in
     let abc = and_left ((ltb 0 x.a && ltb 0 x.b) && ltb 0 x.c) (ltb 0 x.d) abcd in
     let ab = and_left (ltb 0 x.a && ltb 0 x.b) (ltb 0 x.c) abc in
-    below_four (λ j. 0 < nth_number x j)
+    below_four (λ j. 0 < nth x j)
     (ltb→lt 0 x.a (and_left (ltb 0 x.a) (ltb 0 x.b) ab))
     (ltb→lt 0 x.b (and_right (ltb 0 x.a) (ltb 0 x.b) ab))
     (ltb→lt 0 x.c (and_right (ltb 0 x.a && ltb 0 x.b) (ltb 0 x.c) abc))
     (ltb→lt 0 x.d (and_right ((ltb 0 x.a && ltb 0 x.b) && ltb 0 x.c) (ltb 0 x.d) abcd))
 
 -- the costs of w without them
-abbrev pub rest_costs : (f : ℕ → ℕ → ℕ) → (w : ℕ) → FourNumbers → Four
+abbrev pub rest_costs : (f : ℕ → ℕ → ℕ) → (w : ℕ) → Four ℕ → Four ℕ
 rest_costs f w x = record { a = f 0 (w - x.a); b = f 1 (w - x.b); c = f 2 (w - x.c); d = f 3 (w - x.d) }
 
-rest_nth : (f : ℕ → ℕ → ℕ) (w : ℕ) (x : FourNumbers) (j : ℕ) → j < 4 → nth (rest_costs f w x) j ≡ f j (w - nth_number x j)
-rest_nth f w x = below_four (λ j. nth (rest_costs f w x) j ≡ f j (w - nth_number x j)) refl refl refl refl
+rest_nth : (f : ℕ → ℕ → ℕ) (w : ℕ) (x : Four ℕ) (j : ℕ) → j < 4 → nth (rest_costs f w x) j ≡ f j (w - nth x j)
+rest_nth f w x = below_four (λ j. nth (rest_costs f w x) j ≡ f j (w - nth x j)) refl refl refl refl
 
-pub rest_small : {list : List ℕ} {w : ℕ} (x : FourNumbers) {rests : Four} → FourCosts list w → rests ≡ rest_costs (set_costs list) w x → FourSmall rests
+pub rest_small : {list : List ℕ} {w : ℕ} (x : Four ℕ) {rests : Four ℕ} → FourCosts list w → rests ≡ rest_costs (set_costs list) w x → FourSmall rests
 rest_small {w = w} x C is =
     subst FourSmall (sym is) (
       omega (arith, C.low 0 (w - x.a) (omega arith) (omega arith)),
@@ -71,17 +70,17 @@ rest_small {w = w} x C is =
     )
 
 -- where none of them is empty, these are least
-pub free_best : {f : ℕ → ℕ → ℕ} {w : ℕ} {parts : FourNumbers} {best own rests : Four} → FreeParts f w parts
+pub free_best : {f : ℕ → ℕ → ℕ} {w : ℕ} {parts : Four ℕ} {best own rests : Four ℕ} → FreeParts f w parts
     → none_empty parts ≡ true → own ≡ rows_at f w → rests ≡ rest_costs f w parts → best ≡ less_four rests own
     → BestSplits f w best
 free_best {f} {w} {parts} {best} {own} {rests} F some is-own is-rests is-best = record {
   each = λ j s.
-      let ne : nth_number parts j ≢ 0 = λ e. omega (arith, none_empty_lem parts some j s) in
-      free_part (f j) w _ (nth best j) (nth_number parts j) (F.each j s).within ne ((F.each j s).free ne) (value j s);
+      let ne : nth parts j ≢ 0 = λ e. omega (arith, none_empty_lem parts some j s) in
+      free_part (f j) w _ (nth best j) (nth parts j) (F.each j s).within ne ((F.each j s).free ne) (value j s);
 }
   where
-    value : (j : ℕ) → j < 4 → nth best j ≡ min (f j (w - nth_number parts j)) (f j w)
+    value : (j : ℕ) → j < 4 → nth best j ≡ min (f j (w - nth parts j)) (f j w)
     value j s =
-        let x = ap (λ (q : Four). nth q j) is-rests ∙ rest_nth f w parts j s in
-        let y = ap (λ (q : Four). nth q j) is-own ∙ rows_nth f w j s in
-        omega (arith, ap (λ (q : Four). nth q j) is-best, less_nth rests own j s)
+        let x = ap (λ (q : Four ℕ). nth q j) is-rests ∙ rest_nth f w parts j s in
+        let y = ap (λ (q : Four ℕ). nth q j) is-own ∙ rows_nth f w j s in
+        omega (arith, ap (λ (q : Four ℕ). nth q j) is-best, less_nth rests own j s)

@@ -13,7 +13,7 @@ use Rattle.set_splits.specs.laws.BestSplit.{others, BestSplits, FourTried, pair_
 -- ---- one pair
 
 -- the lesser of a pair of splits
-abbrev pub pair_from : List ℕ → (y rest lowest : ℕ) → Four
+abbrev pub pair_from : List ℕ → (y rest lowest : ℕ) → Four ℕ
 pair_from list y rest lowest =
     less_four (sum_four (costs_from list y) (costs_from list (rest + lowest))) (sum_four (costs_from list (y + lowest)) (costs_from list rest))
 
@@ -31,10 +31,10 @@ pub record PairAsked (list : List ℕ) (y rest lowest : ℕ) : Type 0 where
 pub from_fits : {list : List ℕ} {at w v : ℕ} → FourCosts list v → at ≡ w * 4 → w ≤ v → (at + 4 ≤ length list) × (at < max_subsets * 4)
 from_fits C is le = (omega (arith, C.fits), omega (arith, C.few))
 
-from_low : {list : List ℕ} {at w v : ℕ} {f : Four} → FourCosts list v → at ≡ w * 4 → w ≤ v → f ≡ costs_from list at → FourLow f
+from_low : {list : List ℕ} {at w v : ℕ} {f : Four ℕ} → FourCosts list v → at ≡ w * 4 → w ≤ v → f ≡ costs_from list at → FourLow f
 from_low {list} {at} {w} C is le e = costs_low C le (e ∙ from_set list w is)
 
-module _ {list : List ℕ} {y rest lowest : ℕ} (P : PairAsked list y rest lowest) {one other : Four} where
+module _ {list : List ℕ} {y rest lowest : ℕ} (P : PairAsked list y rest lowest) {one other : Four ℕ} where
   pub first_low : one ≡ costs_from list y → other ≡ costs_from list (rest + lowest) → FourLow one × FourLow other
   first_low is_one is-other = (
     from_low P.costs P.is_side (omega arith) is_one,
@@ -47,7 +47,7 @@ module _ {list : List ℕ} {y rest lowest : ℕ} (P : PairAsked list y rest lowe
     from_low P.costs P.is_other_side (omega arith) is-other,
   )
 
-pub pair_small : {list : List ℕ} {y rest lowest : ℕ} {less : Four} → PairAsked list y rest lowest → less ≡ pair_from list y rest lowest → FourSmall less
+pub pair_small : {list : List ℕ} {y rest lowest : ℕ} {less : Four ℕ} → PairAsked list y rest lowest → less ≡ pair_from list y rest lowest → FourSmall less
 pair_small {list} {y} {rest} {lowest} P is =
     let (one, other) = second_low P refl refl in
     less_small (sum_four (costs_from list y) (costs_from list (rest + lowest))) (sum_four (costs_from list (y + lowest)) (costs_from list rest))
@@ -63,7 +63,7 @@ pair_from_lem list a b c is-a is_b is_c =
 -- ---- all pairs
 
 -- the pairs by the parts above the set with first entry `at` have been tried
-pub record TriedAt (list : List ℕ) (w at : ℕ) (best : Four) : Type 0 where
+pub record TriedAt (list : List ℕ) (w at : ℕ) (best : Four ℕ) : Type 0 where
   pub set : ℕ
   pub is : at ≡ set * 4
   pub tried : FourTried (set_costs list) w set best
@@ -78,13 +78,13 @@ next_four y u =
     omega (arith, and_step (y * 4 - 1) (u * 4), ap₂ bit_and one half, and_step (y * 2 - 1) (u * 2), ap₂ bit_and two quarter)
 
 module _ {list : List ℕ} {w : ℕ} where
-  pub at_none : {best : Four} → best ≡ rows_at (set_costs list) w → TriedAt list w (others w * 4) best
+  pub at_none : {best : Four ℕ} → best ≡ rows_at (set_costs list) w → TriedAt list w (others w * 4) best
   at_none is = record { set = others w; is = refl; tried = four_tried_none is }
 
-  pub at_within : {at : ℕ} {best : Four} → TriedAt list w at best → at ≤ others w * 4
+  pub at_within : {at : ℕ} {best : Four ℕ} → TriedAt list w at best → at ≤ others w * 4
   at_within T = omega (arith, T.is, T.tried.within)
 
-  pub at_asked : {at : ℕ} {best : Four} → FourCosts list w → TriedAt list w at best → PairAsked list at (others w * 4 - at) ((w - others w) * 4)
+  pub at_asked : {at : ℕ} {best : Four ℕ} → FourCosts list w → TriedAt list w at best → PairAsked list at (others w * 4 - at) ((w - others w) * 4)
   at_asked C T =
       let within = T.tried.within in
       let below = and_le_l (w - 1) w in
@@ -99,13 +99,13 @@ module _ {list : List ℕ} {w : ℕ} where
       }
 
   -- the least so far is not above the cost of w
-  pub at_small : {at : ℕ} {best : Four} → FourCosts list w → TriedAt list w at best → FourSmall best
+  pub at_small : {at : ℕ} {best : Four ℕ} → FourCosts list w → TriedAt list w at best → FourSmall best
   at_small {at} {best} C T = (small 0 (omega arith), small 1 (omega arith), small 2 (omega arith), small 3 (omega arith))
     where
       small : (j : ℕ) → j < 4 → nth best j < signed_limit
       small j s = omega (arith, (T.tried.each j s).low, C.low j w s (omega arith))
 
-  pub at_next : {at : ℕ} {best sums best' : Four} → others w * 4 < at + at → sums ≡ pair_from list at (others w * 4 - at) ((w - others w) * 4)
+  pub at_next : {at : ℕ} {best sums best' : Four ℕ} → others w * 4 < at + at → sums ≡ pair_from list at (others w * 4 - at) ((w - others w) * 4)
       → best' ≡ less_four sums best → TriedAt list w at best → TriedAt list w (bit_and (at - 1) (others w * 4)) best'
   at_next {at} d is_sum is-best T = record {
     set = bit_and (T.set - 1) (others w);
@@ -114,5 +114,5 @@ module _ {list : List ℕ} {w : ℕ} where
         (is_sum ∙ pair_from_lem list T.set (others w - T.set) (w - others w) T.is (omega (arith, T.is)) refl) is-best T.tried;
   }
 
-  pub at_all : {at : ℕ} {best : Four} → at + at ≤ others w * 4 → TriedAt list w at best → BestSplits (set_costs list) w best
+  pub at_all : {at : ℕ} {best : Four ℕ} → at + at ≤ others w * 4 → TriedAt list w at best → BestSplits (set_costs list) w best
   at_all d T = four_tried_all (omega (arith, T.is)) T.tried

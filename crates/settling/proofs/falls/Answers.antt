@@ -1,6 +1,6 @@
 -- `settling::falls` meets its contract.
 -- Assumes nothing.
-use Rattle.std.proofs.Common.{ap, ◌∙◌, ◌||◌}
+use Rattle.std.proofs.Common.{ℕ, ap, ◌∙◌, ◌||◌}
 use Rattle.lanes.specs.declared.Four.{Four}
 use Rattle.lanes.specs.laws.Four.{low_small}
 use Rattle.settling.specs.laws.LowerFour.{falls_four, four_low}
@@ -24,4 +24,4 @@ less-requires-4 c = (c.requires.2.3, (low_small (four_low c.args.lanes.now c.arg
 pub returns : goal.returns
 returns c =
     (λ i. ((c.less.ensures i || c.less-2.ensures i) || c.less-3.ensures i) || c.less-4.ensures i)
-    ∙ ap (λ (f : Four). falls_four f c.args.by) c.lanes_of-old.ensures
+    ∙ ap (λ (f : Four ℕ). falls_four f c.args.by) c.lanes_of-old.ensures

@@ -68,7 +68,7 @@ pub record AtNode (places lanes : List ℕ) (v : ℕ) : Type 0 where
 pub at_node : {n v : ℕ} {starts weights by_end places lanes : List ℕ} → SomeArcs n starts weights by_end places lanes → v < n → AtNode places lanes v
 at_node S on = record { next = omega (arith, S.indexed.index.places_long); fits = omega (arith, S.indexed.wide) }
 
-pub here_low : {n v : ℕ} {here : Four} {starts weights by_end places lanes : List ℕ} → SomeArcs n starts weights by_end places lanes → v < n
+pub here_low : {n v : ℕ} {here : Four ℕ} {starts weights by_end places lanes : List ℕ} → SomeArcs n starts weights by_end places lanes → v < n
     → here ≡ four_of lanes v → FourLow here
 here_low {v = v} {lanes = lanes} S on is = four_low lanes v (at_node S on).fits S.indexed.low is
 
@@ -91,29 +91,34 @@ module _ {n v : ℕ} {starts weights by_end places lanes : List ℕ} (S : SomeAr
 -- ---- the first entry whose arc gives less
 
 -- whether the arc at place i does, from a node with these cells
-abbrev pub falls_at : (starts weights by_end lanes : List ℕ) → (here : Four) → (i : ℕ) → Bool
+abbrev pub falls_at : (starts weights by_end lanes : List ℕ) → (here : Four ℕ) → (i : ℕ) → Bool
 falls_at starts weights by_end lanes here i = falls_four (four_of lanes (entry starts (entry by_end i))) (along_four here (entry weights (entry by_end i)))
 
 -- the arcs from `from` up to r do not
-pub record NoneFalls (starts weights by_end lanes : List ℕ) (here : Four) (from r : ℕ) : Type 0 where
+pub record NoneFalls (starts weights by_end lanes : List ℕ) (here : Four ℕ) (from r : ℕ) : Type 0 where
   pub onward : from ≤ r
   pub none : (i : ℕ) → from ≤ i → i < r → falls_at starts weights by_end lanes here i ≡ false
 
--- and that at r does, where it is before `end`
-pub record NextFalling (starts weights by_end lanes : List ℕ) (here : Four) (from end r : ℕ) : Type 0 where
+-- none of the arcs from `from` up to `end` does
+pub record NoneFalling (starts weights by_end lanes : List ℕ) (here : Four ℕ) (from end : ℕ) : Type 0 where
+  pub none : (i : ℕ) → from ≤ i → i < end → falls_at starts weights by_end lanes here i ≡ false
+
+-- those up to r do not, and that at r, before `end`, does
+pub record NextFalling (starts weights by_end lanes : List ℕ) (here : Four ℕ) (from end r : ℕ) : Type 0 where
   pub before : NoneFalls starts weights by_end lanes here from r
-  pub falls : r < end → falls_at starts weights by_end lanes here r ≡ true
+  pub within : r < end
+  pub falls : falls_at starts weights by_end lanes here r ≡ true
 
 -- the test of one arc
-tested : (starts weights by_end lanes : List ℕ) (here : Four) (i : ℕ) {by : Four} {test b : Bool} → by ≡ along_four here (entry weights (entry by_end i))
+tested : (starts weights by_end lanes : List ℕ) (here : Four ℕ) (i : ℕ) {by : Four ℕ} {test b : Bool} → by ≡ along_four here (entry weights (entry by_end i))
     → test ≡ falls_four (four_of lanes (entry starts (entry by_end i))) by → test ≡ b → falls_at starts weights by_end lanes here i ≡ b
 tested starts weights by_end lanes here i is tests e = sym (tests ∙ ap (falls_four (four_of lanes (entry starts (entry by_end i)))) is) ∙ e
 
-module _ {starts weights by_end lanes : List ℕ} {here : Four} where
+module _ {starts weights by_end lanes : List ℕ} {here : Four ℕ} where
   pub falls_none : {from : ℕ} → NoneFalls starts weights by_end lanes here from from
   falls_none = record { onward = omega arith; none = λ i a b. absurd (omega arith) }
 
-  module _ {i : ℕ} {by : Four} {test : Bool} (is : by ≡ along_four here (entry weights (entry by_end i)))
+  module _ {i : ℕ} {by : Four ℕ} {test : Bool} (is : by ≡ along_four here (entry weights (entry by_end i)))
       (tests : test ≡ falls_four (four_of lanes (entry starts (entry by_end i))) by) where
     pub falls_next : {from : ℕ} → NoneFalls starts weights by_end lanes here from i → test ≡ false → NoneFalls starts weights by_end lanes here from (i + 1)
     falls_next {from} N fails = record { onward = omega (arith, N.onward); none = λ e a b. go e a b (dec_lt e i) }
@@ -124,11 +129,12 @@ module _ {starts weights by_end lanes : List ℕ} {here : Four} where
             let same : i ≡ e = omega arith in
             subst (λ (x : ℕ). falls_at starts weights by_end lanes here x ≡ false) same (tested starts weights by_end lanes here i is tests fails)
 
-    pub falls_found : {from end : ℕ} → NoneFalls starts weights by_end lanes here from i → test ≡ true → NextFalling starts weights by_end lanes here from end i
-    falls_found N passes = record { before = N; falls = λ l. tested starts weights by_end lanes here i is tests passes }
+    pub falls_found : {from end : ℕ} → NoneFalls starts weights by_end lanes here from i → i < end → test ≡ true
+        → NextFalling starts weights by_end lanes here from end i
+    falls_found N on passes = record { before = N; within = on; falls = tested starts weights by_end lanes here i is tests passes }
 
-  pub falls_end : {from end r : ℕ} → end ≤ r → NoneFalls starts weights by_end lanes here from r → NextFalling starts weights by_end lanes here from end r
-  falls_end l N = record { before = N; falls = λ on. absurd (omega arith) }
+  pub falls_end : {from end r : ℕ} → end ≤ r → NoneFalls starts weights by_end lanes here from r → NoneFalling starts weights by_end lanes here from end
+  falls_end high N = record { none = λ i a b. N.none i a (omega arith) }
 
 -- ---- in all groups
 
@@ -148,8 +154,7 @@ module _ {n : ℕ} {starts weights by_end places lanes : List ℕ} where
   pub before_none : SomeArcs n starts weights by_end places lanes → ClosedBefore n starts weights by_end places lanes 0 0
   before_none S = record { within = omega arith; is = sym S.indexed.index.first; closed = λ m end T. record { each = λ e l. absurd (omega arith) } }
 
-  module _ {v i r : ℕ} {here : Four} (C : ClosedBefore n starts weights by_end places lanes v i) (on : v < n) (was : here ≡ four_of lanes v)
-      (N : NextFalling starts weights by_end lanes here i (entry places (v + 1)) r) where
+  module _ {v i : ℕ} {here : Four ℕ} (C : ClosedBefore n starts weights by_end places lanes v i) (on : v < n) (was : here ≡ four_of lanes v) where
     -- what the arc at a place of the group gives
     gives : (m : ℕ) (end : ℕ → ℕ) → ArcsByEnd n m end starts weights by_end places lanes → (e j : ℕ) → i ≤ e → e < entry places (v + 1) → j < 4
         → nth (along_four here (entry weights (entry by_end e))) j ≡ entry weights (entry by_end e) + cell_in lanes 4 (end (entry by_end e)) j
@@ -158,15 +163,16 @@ module _ {n : ℕ} {starts weights by_end places lanes : List ℕ} where
         omega (
           arith,
           along_nth here (entry weights (entry by_end e)) j s,
-          ap (λ (f : Four). nth f j) was,
+          ap (λ (f : Four ℕ). nth f j) was,
           cell_nth lanes v j s,
           ap (λ (x : ℕ). cell_in lanes 4 x j) ends,
         )
 
-    -- the arcs up to an entry of the group, not above r
-    closed_until : (x : ℕ) → x ≤ r → x ≤ entry places (v + 1) → (m : ℕ) (end : ℕ → ℕ) → ArcsByEnd n m end starts weights by_end places lanes
+    -- the arcs up to an entry of the group, of which none gives less
+    closed_until : (x : ℕ) → ((e : ℕ) → i ≤ e → e < x → falls_at starts weights by_end lanes here e ≡ false) → x ≤ entry places (v + 1)
+        → (m : ℕ) (end : ℕ → ℕ) → ArcsByEnd n m end starts weights by_end places lanes
         → ClosedTo (λ i. entry starts (entry by_end i)) (λ i. end (entry by_end i)) (λ i. entry weights (entry by_end i)) lanes x
-    closed_until x low high m end T = record { each = λ e l. go e l (dec_lt e i) }
+    closed_until x none high m end T = record { each = λ e l. go e l (dec_lt e i) }
       where
         go : (e : ℕ) → e < x → Dec (e < i) → (j : ℕ) → j < 4
             → cell_in lanes 4 (entry starts (entry by_end e)) j ≤ entry weights (entry by_end e) + cell_in lanes 4 (end (entry by_end e)) j
@@ -175,33 +181,39 @@ module _ {n : ℕ} {starts weights by_end places lanes : List ℕ} where
             let u : ℕ = entry starts (entry by_end e) in
             omega (
               arith,
-              none_falls (four_of lanes u) (along_four here (entry weights (entry by_end e))) (N.before.none e (omega arith) (omega arith)) j s,
+              none_falls (four_of lanes u) (along_four here (entry weights (entry by_end e))) (none e (omega arith) (omega arith)) j s,
               cell_nth lanes u j s,
               gives m end T e j (omega arith) (omega arith) s,
             )
 
-    pub before_next : entry places (v + 1) ≤ r → ClosedBefore n starts weights by_end places lanes (v + 1) (entry places (v + 1))
-    before_next high = record { within = omega arith; is = refl; closed = closed_until (entry places (v + 1)) high (omega arith) }
+    pub before_next : NoneFalling starts weights by_end lanes here i (entry places (v + 1))
+        → ClosedBefore n starts weights by_end places lanes (v + 1) (entry places (v + 1))
+    before_next N = record { within = omega arith; is = refl; closed = closed_until (entry places (v + 1)) N.none (omega arith) }
 
-    pub open_here : r < entry places (v + 1) → OpenByIndex n starts weights by_end places lanes r
-    open_here less = record {
+    pub open_here : {r : ℕ} → NextFalling starts weights by_end lanes here i (entry places (v + 1)) r → OpenByIndex n starts weights by_end places lanes r
+    open_here {r} N = record {
       is_first = λ m end T. record {
-        bound = omega (arith, T.index.last (v + 1) (omega arith));
-        before = closed_until r (omega arith) (omega arith) m end T;
+        bound = omega (arith, N.within, T.index.last (v + 1) (omega arith));
+        before = closed_until r N.before.none (omega (arith, N.within)) m end T;
         gives = λ _.
             let u : ℕ = entry starts (entry by_end r) in
-            let (j, s, lower) = one_falls (four_of lanes u) (along_four here (entry weights (entry by_end r))) (N.falls less) in
-            (j, s, omega (arith, lower, cell_nth lanes u j s, gives m end T r j N.before.onward less s));
+            let (j, s, lower) = one_falls (four_of lanes u) (along_four here (entry weights (entry by_end r))) N.falls in
+            (j, s, omega (arith, lower, cell_nth lanes u j s, gives m end T r j N.before.onward N.within s));
       };
     }
 
-  pub before_all : {v i : ℕ} → ClosedBefore n starts weights by_end places lanes v i → n ≤ v → OpenByIndex n starts weights by_end places lanes i
-  before_all {v} C l =
+  pub within_all : {v r : ℕ} → SomeArcs n starts weights by_end places lanes → v < n → r < entry places (v + 1) → r < entry places n
+  within_all {v} S on less = omega (arith, S.indexed.index.last (v + 1) (omega arith))
+
+  pub before_all : {v i : ℕ} → ClosedBefore n starts weights by_end places lanes v i → n ≤ v → OpenByIndex n starts weights by_end places lanes (entry places n)
+  before_all {v} {i} C l =
       let e = C.within in
-      let last : v ≡ n = omega arith in record {
+      let last : v ≡ n = omega arith in
+      let here : i ≡ entry places n = C.is ∙ ap (entry places) last in record {
         is_first = λ m end T. record {
-          bound = omega (arith, C.is, ap (entry places) last);
-          before = C.closed m end T;
-          gives = λ on. absurd (omega (arith, C.is, ap (entry places) last));
+          bound = omega arith;
+          before = subst (ClosedTo (λ i. entry starts (entry by_end i)) (λ i. end (entry by_end i)) (λ i. entry weights (entry by_end i)) lanes) here
+              (C.closed m end T);
+          gives = λ on. absurd (omega arith);
         };
       }

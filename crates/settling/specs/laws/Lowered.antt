@@ -14,7 +14,7 @@ use Rattle.settling.specs.laws.ClosedOver.{ArcFrom, ClosedOver}
 use Rattle.settling.specs.laws.LowerFour.{along_four, along_nth, cell_nth, LoweredAt}
 
 -- arc e, with the cells of its end, gives its start these costs
-pub record Along (end weight : ℕ → ℕ) (lanes : List ℕ) (e : ℕ) (by : Four) : Type 0 where
+pub record Along (end weight : ℕ → ℕ) (lanes : List ℕ) (e : ℕ) (by : Four ℕ) : Type 0 where
   pub gives : (j : ℕ) → j < 4 → nth by j ≡ weight e + cell_in lanes 4 (end e) j
 
 -- the arcs before r give no cell less
@@ -47,24 +47,21 @@ module _ (m : ℕ) (start end weight : ℕ → ℕ) where
 -- ---- one arc
 
 -- the costs along an arc to node v
-pub along_arc : (end weight : ℕ → ℕ) {e v x : ℕ} {here by : Four} {lanes : List ℕ} → here ≡ four_of lanes v → by ≡ along_four here x → weight e ≡ x
+pub along_arc : (end weight : ℕ → ℕ) {e v x : ℕ} {here by : Four ℕ} {lanes : List ℕ} → here ≡ four_of lanes v → by ≡ along_four here x → weight e ≡ x
     → end e ≡ v → Along end weight lanes e by
 along_arc end weight {e} {v} {x} {here} {by} {lanes} was is w ends = record {
   gives = λ j l.
       omega (
         arith,
-        ap (λ (f : Four). nth f j) is,
+        ap (λ (f : Four ℕ). nth f j) is,
         along_nth here x j l,
-        ap (λ (f : Four). nth f j) was,
+        ap (λ (f : Four ℕ). nth f j) was,
         cell_nth lanes v j l,
         ap (λ (y : ℕ). cell_in lanes 4 y j) ends,
       );
 }
 
 -- the first arc that gives less is an arc
-pub is_arc : {m r : ℕ} {start end weight : ℕ → ℕ} {lanes : List ℕ} → FirstOpen m start end weight lanes r → r ≢ m → r < m
-is_arc F ne = omega (arith, F.bound)
-
 -- ---- lowered
 
 module _ {m : ℕ} {start end weight : ℕ → ℕ} where
@@ -92,7 +89,7 @@ module _ {m : ℕ} {start end weight : ℕ → ℕ} where
       })
 
   -- an arc, with costs that the cells of its end are not above
-  pub lowered_by_arc : {e u : ℕ} {by : Four} {before after : List ℕ} → e < m → start e ≡ u
+  pub lowered_by_arc : {e u : ℕ} {by : Four ℕ} {before after : List ℕ} → e < m → start e ≡ u
       → ((j : ℕ) → j < 4 → weight e + cell_in before 4 (end e) j ≤ nth by j) → LoweredAt u by before after
       → Lowered m start end weight before after
   lowered_by_arc {e} {u} {by} {before} {after} l is gives A = record {
@@ -133,7 +130,7 @@ module _ {m : ℕ} {start end weight : ℕ → ℕ} where
   pub passed_none : {r : ℕ} {before : List ℕ} → PassedTo m start end weight r r before before
   passed_none = record { lowered = lowered_none; first = λ l. absurd (omega arith) }
 
-  pub passed_next : {r e : ℕ} {by : Four} {before mid after : List ℕ} → PassedTo m start end weight r e before mid → r ≤ e → e < m
+  pub passed_next : {r e : ℕ} {by : Four ℕ} {before mid after : List ℕ} → PassedTo m start end weight r e before mid → r ≤ e → e < m
       → Along end weight mid e by → LoweredAt (start e) by mid after → PassedTo m start end weight r (e + 1) before after
   passed_next {r} {e} {by} {before} {mid} {after} P from on B A = record {
     lowered = lowered_more P.lowered this_arc;

@@ -1,12 +1,8 @@
 -- `splits::take_rows` meets its contract. The loop's invariant: the first w sets have the cells of the nodes.
 -- Assumes nothing.
-use Rattle.std.proofs.Common.{◌-◌, ◌≤◌}
-use Rattle.lanes.specs.laws.Four.{nth_number}
+use Rattle.lanes.specs.laws.Four.{nth}
 use Rattle.splits.specs.laws.FourRows.{RowsTaken}
 use Rattle.splits.proofs.take_rows.Given as goal
 
 abbrev pub invariant-loop-w : goal.invariant-loop-w
-invariant-loop-w l = (l.w ≤ l.size) × RowsTaken l.cells l.size (nth_number l.rows) l.w l.initial.by_set l.by_set
-
-abbrev pub decreases-loop-w : goal.decreases-loop-w
-decreases-loop-w l = l.size - l.w
+invariant-loop-w l = RowsTaken l.cells l.size (nth l.rows) l.w l.initial.by_set l.by_set

@@ -46,7 +46,7 @@ taken_costs {size = size} {w} {r} B long small T = record {
 }
 
 -- the least costs in a list of the rows of four nodes, set by set, are those in the table
-pub best_in_table : (cells : List ℕ) (r : ℕ → ℕ) {before after : List ℕ} {size w : ℕ} {best : Four} → w < size → RowsTaken cells size r size before after
+pub best_in_table : (cells : List ℕ) (r : ℕ → ℕ) {before after : List ℕ} {size w : ℕ} {best : Four ℕ} → w < size → RowsTaken cells size r size before after
     → BestSplits (set_costs after) w best → BestSplits (cells_at cells size r) w best
 best_in_table cells r {before} {after} {size} {w} {best} small T B = record {
   each = λ j s.

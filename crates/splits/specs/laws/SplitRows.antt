@@ -50,14 +50,6 @@ pub record FourSplit (at : ℕ → ℕ) (first last size : ℕ) (r : ℕ → ℕ
   pub others : (u y : ℕ) → y < size → ((j : ℕ) → j < 4 → r j ≢ u) → cell_in after size u y ≡ cell_in before size u y
 
 module _ {at : ℕ → ℕ} {first size : ℕ} {r : ℕ → ℕ} {before : List ℕ} where
-  pub four_none : FourSplit at first first size r before before
-  four_none = record {
-    same_length = refl;
-    low = λ i. omega arith;
-    rows = λ j s. record { others = λ w small out. refl; each = λ i a b. absurd (omega arith) };
-    others = λ u y small none. refl;
-  }
-
   -- what is asked on the way
   pub still_rows : {p : ℕ} {mid : List ℕ} → Rows before size r → FourSplit at first p size r before mid → Rows mid size r
   still_rows B S = record {
@@ -66,7 +58,7 @@ module _ {at : ℕ → ℕ} {first size : ℕ} {r : ℕ → ℕ} {before : List 
     low = λ i l. omega (arith, S.low i, B.low i (omega (arith, S.same_length)));
   }
 
-  pub four_next : {m last p w : ℕ} {best : Four} {mid after : List ℕ} → Ordered at m size → OneSize at m first last → first ≤ p → p < last → Rows before size r
+  pub four_next : {m last p w : ℕ} {best : Four ℕ} {mid after : List ℕ} → Ordered at m size → OneSize at m first last → first ≤ p → p < last → Rows before size r
       → FourSplit at first p size r before mid → w ≡ at p → BestSplits (cells_at before size r) w best
       → after ≡ write_rows size r w (nth best) mid → FourSplit at first (p + 1) size r before after
   four_next {m} {last} {p} {w} {best} {mid} {after} O R l b B S is least new = record {
@@ -140,13 +132,21 @@ split_none {at} {m} {f = f} O bound none = record {
 }
 
 module _ {at : ℕ → ℕ} {m first last n size : ℕ} {before : List ℕ} (O : Ordered at m size) (R : OneSize at m first last) where
-  pub to_first : {v : ℕ} → NoneBetween (cell_in before size) size n 0 v → SplitTo at first last n size v before before
-  to_first D = record {
-    same_length = refl;
-    low = λ i. omega arith;
-    done = λ u l on. split_none O R.bound (D.none u (omega arith) l);
-    left = λ u y l lu small. refl;
+  -- nodes without a finite terminal are passed over
+  pub to_skip : {from v : ℕ} {mid : List ℕ} → SplitTo at first last n size from before mid → NoneBetween (cell_in mid size) size n from v
+      → SplitTo at first last n size v before mid
+  to_skip {from} {v} {mid} S D = record {
+    same_length = S.same_length;
+    low = S.low;
+    done = λ u l lu. go u l lu (dec_lt u from);
+    left = λ u y l lu small. S.left u y (omega (arith, D.onward)) lu small;
   }
+    where
+      go : (u : ℕ) → u < v → u < n → Dec (u < from) → SplitCells at first last size (cell_in before size u) (cell_in mid size u)
+      go u l lu (yes b) = S.done u b lu
+      go u l lu (no a) =
+          split_same O R.bound (λ w small. refl) (λ w small. sym (S.left u w (omega arith) lu small))
+          (split_none O R.bound (λ i small. omega (arith, D.none u (omega arith) l i small, S.left u (single i) (omega arith) lu small)))
 
   module _ {v : ℕ} {r : ℕ → ℕ} {mid : List ℕ} (whole : length before ≡ n * size) (S : SplitTo at first last n size v before mid)
       (L : FourFinite (cell_in mid size) size n v r) where
@@ -158,13 +158,12 @@ module _ {at : ℕ → ℕ} {m first last n size : ℕ} {before : List ℕ} (O :
       low = λ i l. omega (arith, S.low i, low i (omega (arith, S.same_length)));
     }
 
-    pub to_next : {v' : ℕ} {after : List ℕ} → FourSplit at first last size r mid after → NoneBetween (cell_in after size) size n (r 3 + 1) v'
-        → SplitTo at first last n size v' before after
-    to_next {v'} {after} F D = record {
+    pub to_next : {after : List ℕ} → FourSplit at first last size r mid after → SplitTo at first last n size (r 3 + 1) before after
+    to_next {after} F = record {
       same_length = F.same_length ∙ S.same_length;
       low = λ i. omega (arith, F.low i, S.low i);
-      done = λ u l lu. go u l lu (dec_lt u v) (dec_lt (r 3) u) (lane_or_none r u);
-      left = λ u y l lu small. F.others u y small (λ j s e. omega (arith, L.high j s, D.onward)) ∙ S.left u y (omega (arith, D.onward, L.low 3 (omega arith))) lu small;
+      done = λ u l lu. go u l lu (dec_lt u v) (lane_or_none r u);
+      left = λ u y l lu small. F.others u y small (λ j s e. omega (arith, L.high j s)) ∙ S.left u y (omega (arith, L.low 3 (omega arith))) lu small;
     }
       where
         -- a node that is none of the four is as it was
@@ -175,25 +174,13 @@ module _ {at : ℕ → ℕ} {m first last n size : ℕ} {before : List ℕ} (O :
             → SplitCells at first last size (cell_in before size u) (cell_in after size u)
         unsplit u a lu none dead = split_same O R.bound (λ w small. refl) (λ w small. sym (same u a lu none w small)) (split_none O R.bound dead)
 
-        go : (u : ℕ) → u < v' → u < n → Dec (u < v) → Dec (r 3 < u) → LaneOf r u ⊎ NoLane r u
+        go : (u : ℕ) → u < r 3 + 1 → u < n → Dec (u < v) → LaneOf r u ⊎ NoLane r u
             → SplitCells at first last size (cell_in before size u) (cell_in after size u)
-        go u l lu (yes b) d k =
+        go u l lu (yes b) k =
             split_same O R.bound (λ w small. refl) (λ w small. sym (F.others u w small (λ j s e. omega (arith, L.low j s)))) (S.done u b lu)
-        go u l lu (no b) d (inl k) =
+        go u l lu (no b) (inl k) =
             split_same O R.bound (λ w small. S.left u w (omega arith) lu small) (λ w small. refl)
             (subst (λ (x : ℕ). SplitCells at first last size (cell_in mid size x) (cell_in after size x)) k.same (F.rows k.lane k.small))
-        go u l lu (no b) (no h) (inr k) =
+        go u l lu (no b) (inr k) =
             unsplit u (omega arith) lu k
             (λ i small. omega (arith, L.none u (omega arith) (omega arith) k.none i small, S.left u (single i) (omega arith) lu small))
-        go u l lu (no b) (yes h) (inr k) =
-            unsplit u (omega arith) lu k
-            (λ i small. omega (arith, D.none u (omega arith) l i small, same u (omega arith) lu k (single i) small))
-
-pub to_all : {at : ℕ → ℕ} {first last n size v : ℕ} {before after : List ℕ} → n ≤ v → SplitTo at first last n size v before after
-    → SplitTo at first last n size n before after
-to_all {n = n} {size} {v} {before} {after} high S = record {
-  same_length = S.same_length;
-  low = S.low;
-  done = λ u l on. S.done u (omega arith) on;
-  left = λ u y l lu small. absurd (omega arith);
-}

@@ -6,6 +6,7 @@ use Rattle.cost_table.specs.Cells.{cell_in}
 use Rattle.lanes.specs.declared.Four.{Four}
 use Rattle.lanes.specs.laws.Four.{nth, four_of}
 use Rattle.working_none.specs.laws.Low.{entry}
+use Rattle.settling.specs.declared.Legs.{Legs}
 use Rattle.settling.specs.laws.LowerFour.{along_four, along_nth, cell_nth, LoweredAt}
 use Rattle.settling.specs.laws.ByIndex.{ArcsByEnd, SomeArcs, same_arcs, InGroup, Entries, entry_known, known_from}
 use Rattle.settling.specs.laws.Lowered.{Lowered, lowered_none, lowered_more, lowered_by_arc, still_low}
@@ -13,6 +14,10 @@ use Rattle.settling.specs.laws.Lowered.{Lowered, lowered_none, lowered_more, low
 -- whatever arcs they are, the cells are lowered along them
 pub record LoweredByIndex (n : ℕ) (starts weights by_end places before after : List ℕ) : Type 0 where
   pub lowered : (m : ℕ) (end : ℕ → ℕ) → ArcsByEnd n m end starts weights by_end places before → Lowered m (entry starts) end (entry weights) before after
+
+-- along the legs of a struct
+abbrev pub LoweredByLegs : Legs → (before after : List ℕ) → Type 0
+LoweredByLegs l = LoweredByIndex l.n l.starts.now l.weights.now l.index.now l.places.now
 
 module _ {n : ℕ} {starts weights by_end places : List ℕ} where
   still_arcs : {m : ℕ} {end : ℕ → ℕ} {before after : List ℕ} → Lowered m (entry starts) end (entry weights) before after
@@ -45,7 +50,7 @@ module _ {n v : ℕ} {starts weights by_end places before mid : List ℕ} (S : S
   group_from low = known_from (still_some L S) on low
 
 -- one arc of the group, with the cells that node v had
-pub group_arc : {n v i : ℕ} {here by : Four} {starts weights by_end places before mid after : List ℕ} → LoweredByIndex n starts weights by_end places before mid
+pub group_arc : {n v i : ℕ} {here by : Four ℕ} {starts weights by_end places before mid after : List ℕ} → LoweredByIndex n starts weights by_end places before mid
     → v < n → entry places v ≤ i → i < entry places (v + 1) → here ≡ four_of before v → by ≡ along_four here (entry weights (entry by_end i))
     → LoweredAt (entry starts (entry by_end i)) by mid after → LoweredByIndex n starts weights by_end places before after
 group_arc {n} {v} {i} {here} {by} {starts} {weights} {by_end} {places} {before} {mid} {after} L on from to was is A = record {
@@ -58,9 +63,9 @@ group_arc {n} {v} {i} {here} {by} {starts} {weights} {by_end} {places} {before} 
         arith,
         l.low v j s,
         ap (λ (x : ℕ). cell_in mid 4 x j) ends,
-        ap (λ (f : Four). nth f j) is,
+        ap (λ (f : Four ℕ). nth f j) is,
         along_nth here (entry weights (entry by_end i)) j s,
-        ap (λ (f : Four). nth f j) was,
+        ap (λ (f : Four ℕ). nth f j) was,
         cell_nth before v j s,
       )) A);
 }

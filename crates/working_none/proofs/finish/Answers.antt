@@ -1,22 +1,17 @@
 -- `working_none::finish` meets its contract.
 -- Assumes nothing.
-use Rattle.std.proofs.Common.{◌-◌, ap, ◌∙◌, arith, rules, get_or, ◌≡◌}
-use Rattle.lists.specs.Values.{no_values, next_value, later_value, all_values}
-use Rattle.working_none.specs.laws.WorkingNone.{finished, set_finished, kept_finished}
+use Rattle.std.proofs.Common.{ℕ, ◌+◌, ◌<◌, ◌≤◌, ◌≡◌, List, length, set, ap, ◌∙◌, arith, rules}
+use Rattle.lists.specs.Values.{ValuesTo, next_value, later_value, all_values}
+use Rattle.working_none.specs.laws.WorkingNone.{finished}
+use Rattle.working_none.specs.laws.Low.{entry}
 use Rattle.working_none.proofs.finish.Goals as goal
-use Rattle.working_none.proofs.finish.Goals.{then-cost-eq-WORKING_NONE, else-cost-eq-WORKING_NONE}
 
-pub loop-i-init : goal.loop-i-init
-loop-i-init c = (search rules, no_values)
+next : {old l : List ℕ} {i x : ℕ} → i < length l → x ≡ finished (entry l i) → ValuesTo (λ j. finished (entry old j)) i old l
+    → ValuesTo (λ j. finished (entry old j)) (i + 1) old (set l i x)
+next {i = i} on is so_far = let here : i ≤ i = omega arith in next_value on (is ∙ ap finished (later_value here so_far)) so_far
 
-pub loop-i-preserved : goal.loop-i-preserved
-loop-i-preserved c =
-    let new : c.if-cost-eq-WORKING_NONE.cost ≡ finished (get_or c.loop-i.cells c.loop-i.i 0) =
-    elim c.if-cost-eq-WORKING_NONE.branch [
-      | then-cost-eq-WORKING_NONE w ↦ set_finished w.if-cost-eq-WORKING_NONE.true w.cost-is
-      | else-cost-eq-WORKING_NONE w ↦ kept_finished w.if-cost-eq-WORKING_NONE.false w.cost-is
-    ] in
-    (omega (arith, c.loop-i.invariant.1.same_length, c.loop-i-test.true), next_value c.loop-i-test.true (new ∙ ap finished (later_value (omega arith) c.loop-i.invariant.1)) c.loop-i.invariant.1)
+pub loop-cost-preserved : goal.loop-cost-preserved
+loop-cost-preserved c = next (omega arith) (search rules) c.loop-cost.invariant
 
 pub returns : goal.returns
-returns c = all_values c.loop-i.invariant.0 c.loop-i-test.false c.loop-i.invariant.1
+returns c = all_values {v = c.loop-cost.cost-index} (omega arith) (omega arith) c.loop-cost.invariant

@@ -1,6 +1,7 @@
 -- `engine::planning::plan_sheet` meets its contract. The sheet is opened, and the plan is made over the tables that hold it.
 -- Assumes nothing.
 use Rattle.std.proofs.Common.{arith}
+use Rattle.std.proofs.lemmas.Result.{err_from_is_err_and}
 use Rattle.number_fields.specs.laws.FieldLaws.{known_bytes}
 use Rattle.lent_tables.specs.SheetTables.{sheet_tables}
 use Rattle.lent_tables.specs.IndexTables.{index_tables}
@@ -17,22 +18,24 @@ plan_held-requires c =
     let t = sheet_tables a.starts.now a.ends.now a.weights.now a.landings.now in
     let lent = engine_tables t (index_tables a.by_end.now a.places.now) a.cells.now a.marks.now a.buffer.now in
     let bytes = known_bytes a.sheet.now (λ i. omega (arith, c.type_inv.sheet i)) in
-    opened_held a.sheet.now bytes t _ (engine_further lent) _ _ _ (opened_sheet a.sheet.now t _ (engine_further lent) _ _ c.of_search-further.ensures c.open_sheet-opened.ensures _ _ _ c.in-Sheet.is)
+    opened_held a.sheet.now bytes t _ (engine_further lent) _ _ _ (opened_sheet a.sheet.now t _ (engine_further lent) _ _ c.of_search-further.ensures c.open_sheet.ensures _ _ _ c.in_ok-n.was)
 
-pub returns-in-Refused : goal.returns-in-Refused
-returns-in-Refused c =
+pub returns-in_err-n : goal.returns-in_err-n
+returns-in_err-n c =
     let a = c.args in
     let t = sheet_tables a.starts.now a.ends.now a.weights.now a.landings.now in
     let lent = engine_tables t (index_tables a.by_end.now a.places.now) a.cells.now a.marks.now a.buffer.now in
     let bytes = known_bytes a.sheet.now (λ i. omega (arith, c.type_inv.sheet i)) in
-    cites_points a.sheet.now bytes lent _ _ (refusal_sent a.sheet.now lent (opened_refusal a.sheet.now t _ (engine_further lent) _ _ c.of_search-further.ensures c.open_sheet-opened.ensures _ c.in-Refused.is))
+    let p = err_from_is_err_and c.from_residual.result c.from_residual.ensures.1 in
+    rw (p.1, p.2)
+    (cites_points a.sheet.now bytes lent _ _ (refusal_sent a.sheet.now lent (opened_refusal a.sheet.now t _ (engine_further lent) _ _ c.of_search-further.ensures c.open_sheet.ensures _ c.in_err-n.was)))
 
-pub returns-in-Sheet : goal.returns-in-Sheet
-returns-in-Sheet c =
+pub returns : goal.returns
+returns c =
     let a = c.args in
     let t = sheet_tables a.starts.now a.ends.now a.weights.now a.landings.now in
     let lent = engine_tables t (index_tables a.by_end.now a.places.now) a.cells.now a.marks.now a.buffer.now in
     let bytes = known_bytes a.sheet.now (λ i. omega (arith, c.type_inv.sheet i)) in
     let filled = c.plan_held.ensures in
     cites_points a.sheet.now bytes lent _ _
-    (whole_sent a.sheet.now lent bytes (opened_sheet a.sheet.now t _ (engine_further lent) _ _ c.of_search-further.ensures c.open_sheet-opened.ensures _ _ _ c.in-Sheet.is) _ _ _ _ _ filled.0 filled.1.0 filled.1.1.0 filled.1.1.1)
+    (whole_sent a.sheet.now lent bytes (opened_sheet a.sheet.now t _ (engine_further lent) _ _ c.of_search-further.ensures c.open_sheet.ensures _ _ _ c.in_ok-n.was) _ _ _ _ _ filled.0 filled.1.0 filled.1.1.0 filled.1.1.1)

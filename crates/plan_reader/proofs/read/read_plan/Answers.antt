@@ -1,6 +1,7 @@
 -- `plan_reader::read::read_plan` meets its contract. The sheet is opened, and the file is read against the tables that hold it.
 -- Assumes nothing.
 use Rattle.std.proofs.Common.{arith, length}
+use Rattle.std.proofs.lemmas.Result.{err_from_is_err_and}
 use Rattle.number_fields.specs.laws.FieldLaws.{known_bytes}
 use Rattle.lent_tables.specs.SheetTables.{sheet_tables}
 use Rattle.lent_tables.specs.Lengths.{marks_only}
@@ -17,23 +18,25 @@ read_file-requires c =
     let t = sheet_tables a.starts.now a.ends.now a.weights.now a.landings.now in
     let f = marks_only (length a.marks.now) in
     let bytes = known_bytes a.sheet.now (λ i. omega (arith, c.type_inv.sheet i)) in
-    opened_held a.sheet.now bytes t _ f _ _ _ (opened_sheet a.sheet.now t _ f _ _ c.of_marks-further.ensures c.open_sheet-opened.ensures _ _ _ c.in-Sheet.is)
+    opened_held a.sheet.now bytes t _ f _ _ _ (opened_sheet a.sheet.now t _ f _ _ c.of_marks-further.ensures c.open_sheet.ensures _ _ _ c.in_ok-n.was)
 
-pub returns-in-Refused : goal.returns-in-Refused
-returns-in-Refused c =
+pub returns-in_err-n : goal.returns-in_err-n
+returns-in_err-n c =
     let a = c.args in
     let t = sheet_tables a.starts.now a.ends.now a.weights.now a.landings.now in
     let f = marks_only (length a.marks.now) in
     let file_bytes_lem = known_bytes a.file.now (λ i. omega (arith, c.type_inv.file i)) in
-    cites_points a.sheet.now a.file.now file_bytes_lem (reader_tables t a.marks.now) _ _
-    (refusal_read a.sheet.now a.file.now (reader_tables t a.marks.now) (opened_refusal a.sheet.now t _ f _ _ c.of_marks-further.ensures c.open_sheet-opened.ensures _ c.in-Refused.is))
+    let p = err_from_is_err_and c.from_residual.result c.from_residual.ensures.1 in
+    rw (p.1, p.2)
+    (cites_points a.sheet.now a.file.now file_bytes_lem (reader_tables t a.marks.now) _ _
+    (refusal_read a.sheet.now a.file.now (reader_tables t a.marks.now) (opened_refusal a.sheet.now t _ f _ _ c.of_marks-further.ensures c.open_sheet.ensures _ c.in_err-n.was)))
 
-pub returns-in-Sheet : goal.returns-in-Sheet
-returns-in-Sheet c =
+pub returns : goal.returns
+returns c =
     let a = c.args in
     let t = sheet_tables a.starts.now a.ends.now a.weights.now a.landings.now in
     let f = marks_only (length a.marks.now) in
     let bytes = known_bytes a.sheet.now (λ i. omega (arith, c.type_inv.sheet i)) in
     let file_bytes_lem = known_bytes a.file.now (λ i. omega (arith, c.type_inv.file i)) in
     cites_points a.sheet.now a.file.now file_bytes_lem (reader_tables t a.marks.now) _ _
-    (whole_read a.sheet.now a.file.now (reader_tables t a.marks.now) bytes (opened_sheet a.sheet.now t _ f _ _ c.of_marks-further.ensures c.open_sheet-opened.ensures _ _ _ c.in-Sheet.is) _ _ c.read_file.ensures.0 c.read_file.ensures.1)
+    (whole_read a.sheet.now a.file.now (reader_tables t a.marks.now) bytes (opened_sheet a.sheet.now t _ f _ _ c.of_marks-further.ensures c.open_sheet.ensures _ _ _ c.in_ok-n.was) _ _ c.read_file.ensures.0 c.read_file.ensures.1)

@@ -1,0 +1,30 @@
+-- `Legs::settle` meets its contract.
+-- Assumes nothing.
+use Rattle.std.proofs.Common.{refl, arith}
+use Rattle.settling.specs.laws.Lowered.{lowered_none, lowered_more, sum_falls, settled_end}
+use Rattle.settling.specs.laws.Settling.{still_asked, some_arcs, first_of}
+use Rattle.settling.proofs.Legs.settle.Goals as goal
+
+pub bounds-self-self : goal.bounds-self-self
+bounds-self-self c = omega (arith, c.requires.by_end.index.places_long)
+
+pub loop-open-init : goal.loop-open-init
+loop-open-init c = lowered_none
+
+pub first_open-requires : goal.first_open-requires
+first_open-requires c = some_arcs (still_asked c.requires c.loop-open.invariant)
+
+pub lower_from-requires : goal.lower_from-requires
+lower_from-requires c = (still_asked c.requires c.loop-open.invariant).listed
+
+pub loop-open-smaller : goal.loop-open-smaller
+loop-open-smaller c =
+    let lanes = still_asked c.requires c.loop-open.invariant in
+    let (on, found) = c.in-Some.ensures in
+    sum_falls c.loop-open.invariant (first_of lanes found) on c.lower_from.ensures (lanes.listed.known _ on).start_fits
+
+pub loop-open-preserved : goal.loop-open-preserved
+loop-open-preserved c = lowered_more c.loop-open.invariant c.lower_from.ensures.lowered
+
+pub returns : goal.returns
+returns c = settled_end refl c.loop-open.invariant (first_of (still_asked c.requires c.loop-open.invariant) c.in_default.ensures)
