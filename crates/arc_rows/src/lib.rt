@@ -17,7 +17,7 @@ const MAX_NODES: usize = limits::MAX_NODES as usize;
 
 const MAX_ARCS: usize = limits::MAX_ARCS as usize;
 
-// No record has this number.
+// No record has this number. The tables of rows have an entry of two bytes for each site and each leg: fixed memory.
 const NO_RECORD: u16 = 65_535;
 
 // The record after the new one, i, in a row that begins with `first`: the last record of a row is followed by itself.

@@ -72,6 +72,7 @@ fn lay_best(
 }
 
 // The plan by the cells: none, where every sender's full-set cell is "none".
+// The tables pass one by one: `lay_out`, to which they go, keeps the parameters that docs/FUNCTIONS.md names.
 pub fn best_plan(
     starts: &[u16],
     ends: &[u16],

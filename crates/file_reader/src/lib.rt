@@ -45,7 +45,8 @@ fn read_arcs(
     test_plan(listing, root, total, k, weights, landings, marks)
 }
 
-// A file, against the tables that hold a sheet with n sites, k stations and so many legs.
+// A file, against the tables that hold a sheet with n sites, k stations and so many legs. The tables pass one by one, as the entry points that
+// docs/FUNCTIONS.md names have them.
 pub fn read_file(
     file: &[u8],
     n: u16,

@@ -48,7 +48,8 @@ fn divide(
     split_listed(listing, ends, weights, &served, shares)
 }
 
-// A file, against the tables that hold a sheet with n sites, k stations and so many legs.
+// A file, against the tables that hold a sheet with n sites, k stations and so many legs. The tables pass one by one, as the entry points that
+// docs/FUNCTIONS.md names have them.
 pub fn share_file(
     file: &[u8],
     n: u16,

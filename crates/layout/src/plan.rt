@@ -48,7 +48,8 @@ fn split(sheet: CostedSheet, v: u16, w: Subset, out: &mut [u16], at: usize) -> u
 }
 
 // The legs of the root with the full set are the first entries of `out`; how many there are. Later entries are untouched.
-// The tables hold a sheet with n sites, k stations and so many legs, and its finished cost table.
+// The tables hold a sheet with n sites, k stations and so many legs, and its finished cost table. They pass one by one: docs/FUNCTIONS.md names
+// the parameters.
 pub fn lay_out(
     starts: &[u16],
     ends: &[u16],

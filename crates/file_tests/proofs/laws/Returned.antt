@@ -30,11 +30,6 @@ pub opened_fields : (o : Option PlanFault) (file : List ℕ) (head : Head) → O
 opened_fields none file head e = record { no_fault = refl; root_is = cc e; total_is = cc e; count_is = cc e }
 opened_fields (some f) file head e = let z : ◌≡◌ {A = ℕ} 0 1 = cc e in absurd (omega arith)
 
-pub fields_opened : (o : Option PlanFault) (file : List ℕ) (root total count : ℕ) → FieldsOf o file root total count
-    → Ok (record { root = root; total = total; count = count }) ≡ opened_as o file
-fields_opened o file root total count f =
-    (λ i. Ok (record { root = f.root_is i; total = f.total_is i; count = f.count_is i })) ∙ ap (λ (x : Option PlanFault). opened_as x file) (sym f.no_fault)
-
 pub opened_fault : (o : Option PlanFault) (file : List ℕ) (f : PlanFault) → Err f ≡ opened_as o file → o ≡ some f
 opened_fault none file f e = let z : ◌≡◌ {A = ℕ} 0 1 = cc e in absurd (omega arith)
 opened_fault (some g) file f e = cc e
