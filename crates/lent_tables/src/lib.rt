@@ -6,6 +6,7 @@ ghost use Rattle.std.specs.Prelude.{◌≡◌, ◌≤◌};
 ghost use Rattle.limits.specs.Limits.{max_terminals};
 ghost use Rattle.lent_tables.specs.Lengths.{is_enough, further_pass, lengths_pass, marks_only, share_lengths, search_lengths};
 
+use limits::Counts;
 use subset::sets_of;
 
 // The lengths of all further tables, those that are not loaded with the sheet: leg numbers by end (one entry a leg), starting places (n + 1), cells
@@ -72,37 +73,35 @@ fn is_enough(need: usize, table: Option<usize>) -> bool
     }
 }
 
-// Whether the further tables of these lengths are long enough for a sheet with n sites, k stations and so many legs.
-fn further_enough(n: u16, k: u8, arcs: u16, further: FurtherLengths) -> bool
-    requires { k ≤ max_terminals }
-    ensures { result ≡ further_pass n k arcs further }
+// Whether the further tables of these lengths are long enough for a sheet with so many sites, stations and legs.
+fn further_enough(counts: Counts, further: FurtherLengths) -> bool
+    requires { counts.k ≤ max_terminals }
+    ensures { result ≡ further_pass counts.n counts.k counts.arcs further }
 {
-    let node_count = n as usize;
-    is_enough(arcs as usize, further.by_end)
+    let node_count = counts.n as usize;
+    is_enough(counts.arcs as usize, further.by_end)
         && is_enough(node_count + 1, further.places)
-        && is_enough(node_count * sets_of(k), further.cells)
+        && is_enough(node_count * sets_of(counts.k), further.cells)
         && is_enough(node_count, further.marks)
-        && is_enough(k as usize, further.shares)
+        && is_enough(counts.k as usize, further.shares)
 }
 
 // Whether all tables of these lengths are.
 pub fn long_enough(
-    n: u16,
-    k: u8,
-    arcs: u16,
+    counts: Counts,
     starts: usize,
     ends: usize,
     weights: usize,
     landings: usize,
     further: FurtherLengths,
 ) -> bool
-    requires { k ≤ max_terminals }
-    ensures { result ≡ lengths_pass n k arcs starts ends weights landings further }
+    requires { counts.k ≤ max_terminals }
+    ensures { result ≡ lengths_pass counts.n counts.k counts.arcs starts ends weights landings further }
 {
-    let arc_count = arcs as usize;
+    let arc_count = counts.arcs as usize;
     arc_count <= starts
         && arc_count <= ends
         && arc_count <= weights
-        && n as usize <= landings
-        && further_enough(n, k, arcs, further)
+        && counts.n as usize <= landings
+        && further_enough(counts, further)
 }

@@ -39,10 +39,11 @@ pub type Cost = u32;
 // A signed number of this width: costs below half of what a cell can hold are compared as such.
 pub type SignedCost = i32;
 
-// The cell of a site and a set that no directed subtree serves: "none".
+// The cell of a site and a set that no directed subtree serves: "none". The table that other languages read holds this number.
 pub const NO_COST: Cost = 4_294_967_295;
 
-// The marks, two ASCII bytes each, read as one number.
+// The marks, two ASCII bytes each, read as one number. They are no enum: each reader compares the number that stands in the bytes in one `match` or
+// test, and an enum would need the same `match` before it.
 pub const MARK_HD: u16 = 0x4844;
 
 pub const MARK_LK: u16 = 0x4C4B;

@@ -32,6 +32,7 @@ fn load_records(
     let end = sheet.len() - END_SIZE;
     let mut at: usize = HEAD_SIZE;
     let mut arcs: u16 = 0;
+    // Not a `for`: how many bytes a record takes is known when it is read.
     while at < end {
         let item = first_record(&sheet[at..]);
         put_record(item, arcs, starts, ends, weights, landings);

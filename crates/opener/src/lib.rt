@@ -29,9 +29,7 @@ pub fn open_sheet(
 {
     let counts = judge(sheet)?;
     if !long_enough(
-        counts.n,
-        counts.k,
-        counts.arcs,
+        counts,
         starts.len(),
         ends.len(),
         weights.len(),

@@ -12,6 +12,7 @@ pub fn read_full<R: Read>(input: &mut R, bytes: &mut [u8]) -> usize
     ensures read { Consumes (R.remaining input.old) (R.remaining input.new) (take result bytes.new) }
 {
     let mut done = 0;
+    // Not a `for`: how many bytes a read gives is known when it is made.
     while done < bytes.len() {
         match input.read(&mut bytes[done..]) {
             Ok(0) | Err(_) => break,

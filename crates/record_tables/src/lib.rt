@@ -57,7 +57,8 @@ fn join_entry(landings: &mut [u16], node: u16, more: u16)
     landings[v] |= more;
 }
 
-// One record, where `at` legs stand in the tables.
+// One record, where `at` legs stand in the tables. The tables are lent one by one: of a struct that holds them each contract would also say that every
+// table stays the one that was lent.
 pub fn put_record(
     item: Record,
     at: u16,
