@@ -31,7 +31,7 @@ fn sets_at(sets: &[u16], position: usize, last: usize) -> Four<usize>
     }
 }
 
-// Whether one of the lanes' cells is finite.
+// Whether one of the lanes' cells is finite. (Not `any`: without a branch a machine looks at several cells at once.)
 fn some_finite(lanes: &[Cost]) -> bool
     ensures { result ≡ false → AllNone lanes.now }
 {

@@ -35,7 +35,7 @@ pub fn less(x: Cost, y: Cost) -> bool
     (x as SignedCost) < (y as SignedCost)
 }
 
-// The lesser of two such costs.
+// The lesser of two such costs. (The library's `min` of costs compares them as unsigned numbers.)
 fn lesser_signed(x: Cost, y: Cost) -> Cost
     requires { (x < signed_limit) × (y < signed_limit) }
     ensures { result ≡ min x y }

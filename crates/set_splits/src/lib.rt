@@ -75,6 +75,7 @@ fn least_splits(by_set: &[Cost], w: usize) -> Four<Cost>
     let low = lowest * 4;
     let half = top / 2;
     let mut y = top;
+    // Not a `for`: from one part of the set to the next smaller one.
     while half < y {
         let sums = pair_sums(by_set, y, top - y, low);
         best = lesser_of(sums, best);

@@ -21,6 +21,7 @@ pub fn size_range(k: u8, position: u16) -> SizeRange
     let mut size: u16 = 0;
     let mut first: u16 = 0;
     let mut count: u16 = 1;
+    // Not a `for`: the size is what is looked for.
     while count <= position - first {
         first += count;
         count = count * (stations - size) / (size + 1);

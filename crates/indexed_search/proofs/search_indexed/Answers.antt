@@ -5,11 +5,6 @@ use Rattle.lent_tables.specs.IndexTables.{index_tables}
 use Rattle.network.proofs.HeldSheet.{ends_below, held_index}
 use Rattle.indexed_search.proofs.search_indexed.Goals as goal
 
-pub index_arcs-requires : goal.index_arcs-requires
-index_arcs-requires c =
-    let H = c.requires in
-    (H.long.tables.ends, ends_below H, H.long.further.by_end, H.long.further.places)
-
 pub search-requires : goal.search-requires
 search-requires c =
     let H = c.requires in
@@ -20,9 +15,3 @@ search-requires c =
       search rules,
       search rules,
     )
-
-pub returns : goal.returns
-returns c =
-    let indexed = c.index_arcs.ensures in
-    let searched = c.search.ensures in
-    (ap₂ index_tables indexed.0 indexed.1, (searched.0, searched.1))

@@ -4,12 +4,6 @@ use Rattle.std.proofs.Common.{◌-◌, refl, sym, ◌∙◌, arith, length-take-
 use Rattle.search.specs.laws.Whole.{start_asked, some_set, sets_in, split_asked, close_asked, fill_start, fill_next, fill_end, relent_length}
 use Rattle.search.proofs.fill.Goals as goal
 
-pub sets_of-size-requires : goal.sets_of-size-requires
-sets_of-size-requires c = c.requires.0.few_terminals
-
-pub overflow_mul-wide : goal.overflow_mul-wide
-overflow_mul-wide c = omega (arith, c.requires.0.few_nodes)
-
 pub start_rows-requires : goal.start_rows-requires
 start_rows-requires c =
     start_asked c.requires.0 c.sets_of-size.ensures c.args.cells.now c.requires.2
@@ -22,22 +16,11 @@ loop-first-init c =
     let whole = (start_asked p.0 is c.args.cells.now p.2).2 in
     (omega arith, some_set p.0 is p.5, refl, rows.same_length ∙ whole, fill_start p.0 is p.5 whole rows)
 
-pub end_of_size-last-requires : goal.end_of_size-last-requires
-end_of_size-last-requires c = c.loop-first-test.true
-
 pub split_rows-requires : goal.split_rows-requires
 split_rows-requires c =
     let p = c.requires in
     let l = c.loop-first.invariant in
     split_asked p.0 c.sets_of-size.ensures p.5 c.end_of_size-last.ensures.range c.loop-first.cells l.3 l.0 l.4 (omega (arith, l.2, p.4))
-
-pub slice_bounds-close_sets-end : goal.slice_bounds-close_sets-end
-slice_bounds-close_sets-end c =
-    omega (arith, c.split_rows.auto.cells, c.loop-first.invariant.2, c.requires.3)
-
-pub slice_bounds-close_sets-end-in-loop-first : goal.slice_bounds-close_sets-end-in-loop-first
-slice_bounds-close_sets-end-in-loop-first c =
-    sym (length-take-le _ _ (omega (arith, c.split_rows.auto.cells, c.loop-first.invariant.2, c.requires.3)))
 
 pub close_sets-requires : goal.close_sets-requires
 close_sets-requires c =
@@ -46,9 +29,6 @@ close_sets-requires c =
     let range = c.end_of_size-last.ensures.range in
     let lent = c.split_rows.auto.cells in
     (sets_in p.0 is p.5, range, p.6, close_asked p.0 is p.5 range c.loop-first.cells _ _ p.1 p.7 (length-take-le _ _ (omega (arith, lent, c.loop-first.invariant.2, p.3))) c.loop-first.invariant.3 c.loop-first.invariant.4 c.split_rows.ensures)
-
-pub loop-first-smaller : goal.loop-first-smaller
-loop-first-smaller c = omega (arith, c.end_of_size-last.ensures.rising, c.loop-first-test.true)
 
 pub loop-first-preserved : goal.loop-first-preserved
 loop-first-preserved c =
@@ -60,13 +40,6 @@ loop-first-preserved c =
     let after = c.close_sets.new.lanes in
     let given = c.close_sets.auto.lanes in
     (omega (arith, end.rising), end.range.bound, relent_length _ _ after given (lent ∙ l.2) p.3, next.0, next.1)
-
-pub shape_of-cells : goal.shape_of-cells
-shape_of-cells c =
-    c.finish.auto.cells ∙ c.loop-first.invariant.3 ∙ sym (start_asked c.requires.0 c.sets_of-size.ensures c.args.cells.now c.requires.2).2
-
-pub shape_of-lanes : goal.shape_of-lanes
-shape_of-lanes c = c.loop-first.invariant.2
 
 pub returns : goal.returns
 returns c =

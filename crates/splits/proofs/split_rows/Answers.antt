@@ -15,12 +15,6 @@ heard_at-heard-requires c =
     let long = c.requires.8 in
     (omega (arith, four.high 0 (omega arith), four.within), omega (arith, four.high 1 (omega arith), four.within), omega (arith, four.high 2 (omega arith), four.within), omega (arith, four.within))
 
-pub split_four-requires : goal.split_four-requires
-split_four-requires c =
-    let p = c.requires in
-    let so_far = to_skip p.0 p.1 c.loop-v.invariant.2 c.in-Some.ensures.1 in
-    (p.0, p.1, p.2, next_rows p.0 p.1 p.5 so_far c.four_finite-four.ensures p.4 p.6, omega (arith, p.7, c.loop-v.invariant.1))
-
 pub loop-v-preserved : goal.loop-v-preserved
 loop-v-preserved c =
     let four = c.four_finite-four.ensures in

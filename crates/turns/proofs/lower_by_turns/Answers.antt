@@ -4,9 +4,6 @@ use Rattle.std.proofs.Common.{◌∙◌, refl}
 use Rattle.visits.specs.laws.ByIndex.{still_some, index_more, index_none}
 use Rattle.turns.proofs.lower_by_turns.Goals as goal
 
-pub loop-round-init : goal.loop-round-init
-loop-round-init c = (refl, index_none)
-
 pub take_turns-requires : goal.take_turns-requires
 take_turns-requires c = (c.loop-round.invariant.0, still_some c.loop-round.invariant.1 c.requires)
 

@@ -15,31 +15,9 @@ onward c = omega (arith, c.loop-i.invariant.0, c.in-Some.ensures.1.before.onward
 known : (c : In-Some) → InGroup c.args.legs.starts.now c.args.legs.weights.now c.args.legs.index.now c.loop-i.lanes c.in-Some.i
 known c = in_group c.requires.2 c.requires.1 c.loop-i.invariant.2 (onward c) c.in-Some.ensures.0
 
-pub lanes_of-here-requires : goal.lanes_of-here-requires
-lanes_of-here-requires c = (at_node c.requires.2 c.requires.1).fits
-
-pub bounds-legs-v : goal.bounds-legs-v
-bounds-legs-v c = (at_node c.requires.2 c.requires.1).next
-
-pub loop-i-init : goal.loop-i-init
-loop-i-init c = (omega arith, c.requires.0, index_none)
-
 pub next_falling-requires : goal.next_falling-requires
 next_falling-requires c =
     (here_low c.requires.2 c.requires.1 c.lanes_of-here.ensures, group_from c.requires.2 c.requires.1 c.loop-i.invariant.2 c.loop-i.invariant.0)
-
-pub bounds-legs-i : goal.bounds-legs-i
-bounds-legs-i c = (known (goal.at.bounds-legs-i c).In-Some).on
-
-pub bounds-legs-e : goal.bounds-legs-e
-bounds-legs-e c = (known (goal.at.bounds-legs-e c).In-Some).weights_on
-
-pub along-by-requires : goal.along-by-requires
-along-by-requires c =
-    (here_low c.requires.2 c.requires.1 c.lanes_of-here.ensures, (known (goal.at.along-by-requires c).In-Some).weight_low)
-
-pub bounds-legs-e-in-Some : goal.bounds-legs-e-in-Some
-bounds-legs-e-in-Some c = (known (goal.at.bounds-legs-e-in-Some c).In-Some).starts_on
 
 pub lower_in_turn-requires : goal.lower_in_turn-requires
 lower_in_turn-requires c =
@@ -48,13 +26,7 @@ lower_in_turn-requires c =
     let lanes = still_some c.loop-i.invariant.2 c.requires.2 in
     (c.loop-i.invariant.1, e.start_lt, e.fits, lanes.indexed.low, along_small low e.weight_low c.along-by.ensures)
 
-pub loop-i-smaller : goal.loop-i-smaller
-loop-i-smaller c = omega (arith, c.in-Some.ensures.1.before.onward, c.in-Some.ensures.0)
-
 pub loop-i-preserved : goal.loop-i-preserved
 loop-i-preserved c =
     let on = onward (goal.at.loop-i-preserved c).In-Some in
     (omega (arith, on), c.lower_in_turn.auto.turns ∙ c.loop-i.invariant.1, group_arc c.loop-i.invariant.2 c.requires.1 on c.in-Some.ensures.0 c.lanes_of-here.ensures c.along-by.ensures c.lower_in_turn.ensures)
-
-pub returns : goal.returns
-returns c = c.loop-i.invariant.2

@@ -5,12 +5,6 @@ use Rattle.settling.specs.laws.Lowered.{lowered_none, lowered_more, sum_falls, s
 use Rattle.settling.specs.laws.Settling.{still_asked, some_arcs, first_of}
 use Rattle.settling.proofs.Legs.settle.Goals as goal
 
-pub bounds-self-self : goal.bounds-self-self
-bounds-self-self c = omega (arith, c.requires.by_end.index.places_long)
-
-pub loop-open-init : goal.loop-open-init
-loop-open-init c = lowered_none
-
 pub first_open-requires : goal.first_open-requires
 first_open-requires c = some_arcs (still_asked c.requires c.loop-open.invariant)
 
@@ -22,9 +16,6 @@ loop-open-smaller c =
     let lanes = still_asked c.requires c.loop-open.invariant in
     let (on, found) = c.in-Some.ensures in
     sum_falls c.loop-open.invariant (first_of lanes found) on c.lower_from.ensures (lanes.listed.known _ on).start_fits
-
-pub loop-open-preserved : goal.loop-open-preserved
-loop-open-preserved c = lowered_more c.loop-open.invariant c.lower_from.ensures.lowered
 
 pub returns : goal.returns
 returns c = settled_end refl c.loop-open.invariant (first_of (still_asked c.requires c.loop-open.invariant) c.in_default.ensures)
