@@ -31,6 +31,17 @@ pub enum Round {
     LeastFirst,
 }
 
+// A round by its number: 0, 1, or a later one.
+impl From<u8> for Round {
+    fn from(number: u8) -> Round {
+        match number {
+            0 => Round::AllWait,
+            1 => Round::RestWaits,
+            _ => Round::LeastFirst,
+        }
+    }
+}
+
 // The least of the four turns from `from` on.
 fn soonest_of_four(turns: &[u64], from: usize) -> u64
     requires { (from + 4 ≤ length turns.now) × (length turns.now ≡ turn_entries) }
@@ -136,10 +147,10 @@ fn fallen(new: Cost, old: Cost) -> Cost {
 
 // By which key a site has a turn that had the cells `old` and is given `by`: by the sum of what it is given, and in the last round by the least to which
 // a cell falls.
-pub fn turn_key(round: Round, by: Four<Cost>, old: Four<Cost>) -> u64
+pub fn turn_key(round: impl Into<Round>, by: Four<Cost>, old: Four<Cost>) -> u64
     ensures { result < key_limit }
 {
-    match round {
+    match round.into() {
         Round::AllWait | Round::RestWaits => cost_sum(by),
         Round::LeastFirst => u64::from(least_of(Four {
             a: fallen(by.a, old.a),
@@ -181,9 +192,10 @@ fn enter_site(round: Round, v: usize, here: Four<Cost>, turns: &mut [u64])
 }
 
 // In the first round each site that has a finite cell has a turn, by the sum of its cells; in a later one each that still has a turn has it by the least of them.
-pub fn enter_all(round: Round, lanes: &[Cost], n: usize, turns: &mut [u64])
+pub fn enter_all(round: impl Into<Round>, lanes: &[Cost], n: usize, turns: &mut [u64])
     requires { (length turns.old ≡ turn_entries) × (n ≤ max_nodes) × (n * 4 ≤ length lanes.now) }
 {
+    let round = round.into();
     for v in 0..n {
         enter_site(round, v, lanes_of(lanes, v), turns);
     }

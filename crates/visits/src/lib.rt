@@ -34,10 +34,17 @@ fn lower_in_turn(
 
 // The legs that end at site v, by the index: where one gives less, the cells of its start fall. The soonest turn that a start has for it is given back, or
 // NO_TURN.
-pub fn visit(legs: Legs, round: Round, v: usize, lanes: &mut [Cost], turns: &mut [u64]) -> u64
+pub fn visit(
+    legs: Legs,
+    round: impl Into<Round>,
+    v: usize,
+    lanes: &mut [Cost],
+    turns: &mut [u64],
+) -> u64
     requires { (length turns.old ≡ turn_entries) × (v < legs.n) × SomeLegs legs lanes.old }
     ensures { LoweredByLegs legs.entry lanes.old lanes.new }
 {
+    let round = round.into();
     let here = lanes_of(lanes, v);
     let end = legs.places[v + 1] as usize;
     let mut from = legs.places[v] as usize;
