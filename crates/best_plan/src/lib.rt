@@ -3,8 +3,7 @@
 
 ghost use Rattle.std.proofs.Math.Option.{some};
 ghost use Rattle.answer.specs.Stated.{stated};
-ghost use Rattle.lent_tables.specs.SheetTables.{sheet_tables};
-ghost use Rattle.graph.specs.HeldGraph.{graph_in};
+ghost use Rattle.loaded_sheet.specs.Held.{tables_of, graph_of};
 ghost use Rattle.planfile.specs.laws.FormatLaws.{Fits};
 ghost use Rattle.best_plan.specs.Plan.{plan_with, plan_of};
 ghost use Rattle.best_plan.specs.laws.Best.{SentBack, FinishedSheet, FiniteRoot};
@@ -13,7 +12,8 @@ use answer::{Answer, Plan, SearchFault, TableFault};
 use cost_table::cheapest::sender_cell;
 use layout::plan::lay_out;
 use layout::root::best_root;
-use limits::Cost;
+use limits::{Cost, Counts};
+use loaded_sheet::LoadedSheet;
 use planfile::write::{WriteFault, write_plan};
 use subset::Subset;
 
@@ -37,30 +37,18 @@ fn write_best(root: u16, total: u64, arcs: &[u16], buffer: &mut [u8]) -> Answer
 }
 
 // The plan from a root whose full-set cell is this cost, and finite: its legs are laid out, and its file is written.
-fn lay_best(
-    starts: &[u16],
-    ends: &[u16],
-    weights: &[u32],
-    landings: &[u16],
-    cells: &[Cost],
-    n: u16,
-    k: u8,
-    arcs: u16,
-    root: u16,
-    cost: Cost,
-    buffer: &mut [u8],
-) -> Answer
-    requires { let t = sheet_tables starts.now ends.now weights.now landings.now in
-        FinishedSheet n k arcs t cells.now × FiniteRoot n k cells.now landings.now root cost }
-    ensures { let t = sheet_tables starts.now ends.now weights.now landings.now in
-        SentBack (plan_of (graph_in n k arcs t)) (stated result) buffer.old buffer.new }
+fn lay_best(sheet: LoadedSheet, cells: &[Cost], root: u16, cost: Cost, buffer: &mut [u8]) -> Answer
+    requires { FinishedSheet sheet.counts.n sheet.counts.k sheet.counts.arcs (tables_of sheet) cells.now
+        × FiniteRoot sheet.counts.n sheet.counts.k cells.now sheet.landings.now root cost }
+    ensures { SentBack (plan_of (graph_of sheet.entry)) (stated result) buffer.old buffer.new }
 {
+    let Counts { n, k, arcs } = sheet.counts;
     let mut listed = [0u16; MAX_TREE_ARCS];
     let count = lay_out(
-        starts,
-        ends,
-        weights,
-        landings,
+        sheet.starts,
+        sheet.ends,
+        sheet.weights,
+        sheet.landings,
         cells,
         n,
         k,
@@ -72,28 +60,15 @@ fn lay_best(
 }
 
 // The plan by the cells: none, where every sender's full-set cell is "none".
-// The tables pass one by one: `lay_out`, to which they go, keeps the parameters that docs/FUNCTIONS.md names.
-pub fn best_plan(
-    starts: &[u16],
-    ends: &[u16],
-    weights: &[u32],
-    landings: &[u16],
-    cells: &[Cost],
-    n: u16,
-    k: u8,
-    arcs: u16,
-    buffer: &mut [u8],
-) -> Answer
-    requires { let t = sheet_tables starts.now ends.now weights.now landings.now in FinishedSheet n k arcs t cells.now }
-    ensures { let t = sheet_tables starts.now ends.now weights.now landings.now in
-        SentBack (plan_of (graph_in n k arcs t)) (stated result) buffer.old buffer.new }
+pub fn best_plan(sheet: LoadedSheet, cells: &[Cost], buffer: &mut [u8]) -> Answer
+    requires { FinishedSheet sheet.counts.n sheet.counts.k sheet.counts.arcs (tables_of sheet) cells.now }
+    ensures { SentBack (plan_of (graph_of sheet.entry)) (stated result) buffer.old buffer.new }
 {
-    let root = best_root(cells, landings, n, k);
-    let cost = sender_cell(cells, landings, n, k, root, Subset::full(k));
+    let Counts { n, k, arcs: _ } = sheet.counts;
+    let root = best_root(cells, sheet.landings, n, k);
+    let cost = sender_cell(cells, sheet.landings, n, k, root, Subset::full(k));
     if cost == limits::NO_COST {
         return Err(SearchFault::NoPlan.into());
     }
-    lay_best(
-        starts, ends, weights, landings, cells, n, k, arcs, root, cost, buffer,
-    )
+    lay_best(sheet, cells, root, cost, buffer)
 }

@@ -1,0 +1,2 @@
+-- the tables and the graph of a loaded sheet
+pub mod Held
