@@ -13,7 +13,8 @@ ghost use Rattle.engine.specs.Engine.{planning_of};
 use answer::Answer;
 use held_plan::plan_held;
 use lent_tables::FurtherLengths;
-use limits::{Cost, Counts};
+use limits::Cost;
+use loaded_sheet::LoadedSheet;
 use opener::open_sheet;
 
 // The engine.
@@ -39,8 +40,13 @@ pub fn plan_sheet(
         × EngineBest reading_of sheet.now before (stated result)))) }
 {
     let further = FurtherLengths::of_search(by_end.len(), places.len(), cells.len(), marks.len());
-    let Counts { n, k, arcs } = open_sheet(sheet, starts, ends, weights, landings, further)?;
-    plan_held(
-        starts, ends, weights, landings, by_end, places, n, k, arcs, cells, marks, buffer,
-    )
+    let counts = open_sheet(sheet, starts, ends, weights, landings, further)?;
+    let loaded = LoadedSheet {
+        counts,
+        starts,
+        ends,
+        weights,
+        landings,
+    };
+    plan_held(loaded, by_end, places, cells, marks, buffer)
 }

@@ -18,17 +18,17 @@ plan_held-requires c =
     let t = sheet_tables a.starts.now a.ends.now a.weights.now a.landings.now in
     let lent = engine_tables t (index_tables a.by_end.now a.places.now) a.cells.now a.marks.now a.buffer.now in
     let bytes = known_bytes a.sheet.now (λ i. omega (arith, c.type_inv.sheet i)) in
-    opened_held a.sheet.now bytes t _ (engine_further lent) _ _ _ (opened_sheet a.sheet.now t _ (engine_further lent) _ _ c.of_search-further.ensures c.open_sheet.ensures _ _ _ c.in_ok-n.was)
+    opened_held a.sheet.now bytes t _ (engine_further lent) _ _ _ (opened_sheet a.sheet.now t _ (engine_further lent) _ _ c.of_search-further.ensures c.open_sheet.ensures _ _ _ c.in_ok-counts.was)
 
-pub returns-in_err-n : goal.returns-in_err-n
-returns-in_err-n c =
+pub returns-in_err-counts : goal.returns-in_err-counts
+returns-in_err-counts c =
     let a = c.args in
     let t = sheet_tables a.starts.now a.ends.now a.weights.now a.landings.now in
     let lent = engine_tables t (index_tables a.by_end.now a.places.now) a.cells.now a.marks.now a.buffer.now in
     let bytes = known_bytes a.sheet.now (λ i. omega (arith, c.type_inv.sheet i)) in
     let p = err_from_is_err_and c.from_residual.result c.from_residual.ensures.1 in
     rw (p.1, p.2)
-    (cites_points a.sheet.now bytes lent _ _ (refusal_sent a.sheet.now lent (opened_refusal a.sheet.now t _ (engine_further lent) _ _ c.of_search-further.ensures c.open_sheet.ensures _ c.in_err-n.was)))
+    (cites_points a.sheet.now bytes lent _ _ (refusal_sent a.sheet.now lent (opened_refusal a.sheet.now t _ (engine_further lent) _ _ c.of_search-further.ensures c.open_sheet.ensures _ c.in_err-counts.was)))
 
 pub returns : goal.returns
 returns c =
@@ -38,4 +38,4 @@ returns c =
     let bytes = known_bytes a.sheet.now (λ i. omega (arith, c.type_inv.sheet i)) in
     let filled = c.plan_held.ensures in
     cites_points a.sheet.now bytes lent _ _
-    (whole_sent a.sheet.now lent bytes (opened_sheet a.sheet.now t _ (engine_further lent) _ _ c.of_search-further.ensures c.open_sheet.ensures _ _ _ c.in_ok-n.was) _ _ _ _ _ filled.0 filled.1.0 filled.1.1.0 filled.1.1.1)
+    (whole_sent a.sheet.now lent bytes (opened_sheet a.sheet.now t _ (engine_further lent) _ _ c.of_search-further.ensures c.open_sheet.ensures _ _ _ c.in_ok-counts.was) _ _ _ _ _ filled.0 filled.1.0 filled.1.1.0 filled.1.1.1)
