@@ -5,13 +5,12 @@
 
 ghost use Rattle.std.specs.Prelude.{◌≤◌, ◌<◌, length};
 ghost use Rattle.limits.specs.Limits.{max_nodes, max_arcs};
-ghost use Rattle.planfile.specs.Listed.{arcs_of};
-ghost use Rattle.marking.specs.Links.{link_graph, Within, Below};
+ghost use Rattle.marking.specs.Links.{Below};
+ghost use Rattle.marking.specs.Listed.{listed_in, graph_along, LeadWithin};
 ghost use Rattle.marking.specs.Marking.{Carried};
 ghost use Rattle.arc_rows.specs.Rows.{StartsBelow, AllBelow, RowsReady, Queued, RowMarked};
 
-use marking::mark_end;
-use planfile::fields::Listing;
+use marking::ListedArcs;
 
 const MAX_NODES: usize = limits::MAX_NODES as usize;
 
@@ -37,12 +36,12 @@ fn later_record(next: u16, i: u16) -> u16 {
 }
 
 // Each listed leg comes into the row of its start: `first` has the first record of each site's row, `next` the record after each leg's.
-fn link(listing: Listing, starts: &[u16], first: &mut [u16], next: &mut [u16])
-    requires { StartsBelow (length first.old) (arcs_of listing) starts.now × Below (length next.old) (arcs_of listing) }
+fn link(arcs: ListedArcs, first: &mut [u16], next: &mut [u16])
+    requires { StartsBelow (length first.old) (listed_in arcs) arcs.starts.now × Below (length next.old) (listed_in arcs) }
 {
-    for i in 0..listing.count {
-        let e = listing.arc(i);
-        let start = starts[e] as usize;
+    for i in 0..arcs.listing.count {
+        let e = arcs.listing.arc(i);
+        let start = arcs.starts[e] as usize;
         if next[e] == NO_RECORD {
             next[e] = followed_by(first[start], i);
             first[start] = i;
@@ -64,29 +63,26 @@ fn push(queue: &mut [u16], tail: usize, v: u16) -> usize
 
 // The legs of one row mark their ends, which come into the queue.
 fn mark_row(
-    listing: Listing,
-    starts: &[u16],
-    ends: &[u16],
+    arcs: ListedArcs,
     next: &[u16],
     first: u16,
     queued: usize,
     queue: &mut [u16],
     marks: &mut [u8],
 ) -> usize
-    requires { RowsReady (arcs_of listing) starts.now ends.now next.now (length marks.old) × AllBelow (length marks.old) queue.old
+    requires { RowsReady (listed_in arcs) arcs.starts.now arcs.ends.now next.now (length marks.old) × AllBelow (length marks.old) queue.old
         × (queued ≤ length queue.old) }
-    ensures { RowMarked (link_graph (length marks.old) starts.now ends.now) (arcs_of listing.entry)
-        marks.old marks.new queue.new result }
+    ensures { let s = arcs.entry in RowMarked (graph_along (length marks.old) s) (listed_in s) marks.old marks.new queue.new result }
 {
     let mut tail = queued;
     let mut i = first;
-    for _ in 0..listing.count {
-        if listing.count <= i {
+    for _ in 0..arcs.listing.count {
+        if arcs.listing.count <= i {
             break;
         }
-        let e = listing.arc(i);
-        if mark_end(starts, ends, e, marks) {
-            tail = push(queue, tail, ends[e]);
+        let e = arcs.listing.arc(i);
+        if arcs.mark_end(e, marks) {
+            tail = push(queue, tail, arcs.ends[e]);
         }
         i = later_record(next[e], i);
     }
@@ -95,42 +91,35 @@ fn mark_row(
 
 // From the root on, the row of each site in the queue.
 fn walk(
-    listing: Listing,
-    starts: &[u16],
-    ends: &[u16],
+    arcs: ListedArcs,
     first: &[u16],
     next: &[u16],
     root: u16,
     queue: &mut [u16],
     marks: &mut [u8],
 )
-    requires { RowsReady (arcs_of listing) starts.now ends.now next.now (length marks.old) × AllBelow (length marks.old) queue.old
+    requires { RowsReady (listed_in arcs) arcs.starts.now arcs.ends.now next.now (length marks.old) × AllBelow (length marks.old) queue.old
         × (root < length marks.old) × (length marks.old ≤ length first.now) }
-    ensures { Carried (link_graph (length marks.old) starts.now ends.now) (arcs_of listing.entry)
-        marks.old marks.new }
+    ensures { let s = arcs.entry in Carried (graph_along (length marks.old) s) (listed_in s) marks.old marks.new }
 {
     let mut tail = push(queue, 0, root);
     let mut at = 0;
     // The index is counted by hand: the queue grows while it is walked.
     while at < tail {
         let v = queue[at] as usize;
-        tail = mark_row(listing, starts, ends, next, first[v], tail, queue, marks);
+        tail = mark_row(arcs, next, first[v], tail, queue, marks);
         at += 1;
     }
 }
 
 // The rows, and the walk along them.
-pub fn mark_rows(listing: Listing, root: u16, starts: &[u16], ends: &[u16], marks: &mut [u8])
-    requires { (root < length marks.old) × (length marks.old ≤ max_nodes)
-        × Within (length marks.old) (arcs_of listing) starts.now ends.now × Below max_arcs (arcs_of listing) }
-    ensures { Carried (link_graph (length marks.old) starts.now ends.now) (arcs_of listing.entry)
-        marks.old marks.new }
+pub fn mark_rows(arcs: ListedArcs, root: u16, marks: &mut [u8])
+    requires { (root < length marks.old) × (length marks.old ≤ max_nodes) × LeadWithin (length marks.old) arcs × Below max_arcs (listed_in arcs) }
+    ensures { let s = arcs.entry in Carried (graph_along (length marks.old) s) (listed_in s) marks.old marks.new }
 {
     let mut first = [NO_RECORD; MAX_NODES];
     let mut next = [NO_RECORD; MAX_ARCS];
     let mut queue = [0u16; MAX_NODES];
-    link(listing, starts, &mut first, &mut next);
-    walk(
-        listing, starts, ends, &first, &next, root, &mut queue, marks,
-    );
+    link(arcs, &mut first, &mut next);
+    walk(arcs, &first, &next, root, &mut queue, marks);
 }

@@ -15,6 +15,7 @@ ghost use Rattle.file_shares.specs.PlanReady.{PlanReady, SomePlan, Divided};
 use answer::{Shared, Sharing};
 use file_reader::read_file;
 use limits::Cost;
+use marking::ListedArcs;
 use planfile::fields::Listing;
 use price_parts::split_listed;
 use serving::parents::{NO_PARENT, set_parents};
@@ -25,27 +26,25 @@ const MAX_NODES: usize = limits::MAX_NODES as usize;
 // The prices of the listed legs, divided over k stations: the shares, one entry a station, and the unassigned sum. The marks have one entry for
 // each site, and the listed legs are a plan.
 fn divide(
-    listing: Listing,
+    arcs: ListedArcs,
     k: u8,
-    starts: &[u16],
-    ends: &[u16],
     weights: &[u32],
     landings: &[u16],
     marks: &[u8],
     shares: &mut [Cost],
 ) -> Cost
-    requires { let t = sheet_tables starts.now ends.now weights.now landings.now in
-        (SomePlan listing.file.now listing.count k t marks.now × (length shares.old ≡ k)) }
-    ensures { let l = listing.entry in
-        (let t = sheet_tables starts.now ends.now weights.now landings.now in
-        ((G : Graph) (root : _) → PlanReady G root l.file.now l.count k t marks.now
-        → Divided G root l.file.now l.count shares.new result)) }
+    requires { let t = sheet_tables arcs.starts.now arcs.ends.now weights.now landings.now in
+        (SomePlan arcs.listing.file.now arcs.listing.count k t marks.now × (length shares.old ≡ k)) }
+    ensures { let s = arcs.entry in
+        (let t = sheet_tables s.starts.now s.ends.now weights.now landings.now in
+        ((G : Graph) (root : _) → PlanReady G root s.listing.file.now s.listing.count k t marks.now
+        → Divided G root s.listing.file.now s.listing.count shares.new result)) }
 {
     let mut parents = [NO_PARENT; MAX_NODES];
     let mut served = [0u16; MAX_NODES];
-    set_parents(listing, starts, ends, &mut parents);
+    set_parents(arcs, &mut parents);
     serve(&parents, marks, landings, k, &mut served);
-    split_listed(listing, ends, weights, &served, shares)
+    split_listed(arcs.listing, arcs.ends, weights, &served, shares)
 }
 
 // A file, against the tables that hold a sheet with n sites, k stations and so many legs. The tables pass one by one, as the entry points that
@@ -70,17 +69,19 @@ pub fn share_file(
         × (shares.new ≡ shares_after G file.now shares.old))) }
 {
     let plan = read_file(file, n, k, arcs, starts, ends, weights, landings, marks)?;
-    let listing = Listing {
-        file,
-        count: plan.arcs,
+    let listed = ListedArcs {
+        listing: Listing {
+            file,
+            count: plan.arcs,
+        },
+        starts,
+        ends,
     };
     let nodes = n as usize;
     let terminals = k as usize;
     let unassigned = divide(
-        listing,
+        listed,
         k,
-        starts,
-        ends,
         weights,
         landings,
         &marks[..nodes],

@@ -5,20 +5,32 @@
 ghost use Rattle.std.specs.Prelude.{◌<◌, length, get_or};
 ghost use Rattle.marking.specs.Marking.{ArcMarks};
 
-// A leg whose start is marked marks its end: whether the end was not marked before.
-pub fn mark_end(starts: &[u16], ends: &[u16], e: usize, marks: &mut [u8]) -> bool
-    requires { (e < length starts.now) × (e < length ends.now) × (get_or starts.now e 0 < length marks.old)
-        × (get_or ends.now e 0 < length marks.old) }
-    ensures { ArcMarks (get_or starts.now e 0) (get_or ends.now e 0) marks.old marks.new result }
-{
-    let start = starts[e] as usize;
-    let end = ends[e] as usize;
-    if marks[start] != 1 {
-        return false;
+use planfile::fields::Listing;
+
+// The legs that a file lists, with the tables of starts and ends that they stand in.
+#[derive(Clone, Copy)]
+pub struct ListedArcs<'f, 'a> {
+    pub listing: Listing<'f>,
+    pub starts: &'a [u16],
+    pub ends: &'a [u16],
+}
+
+impl<'f, 'a> ListedArcs<'f, 'a> {
+    // A leg whose start is marked marks its end: whether the end was not marked before.
+    pub fn mark_end(self, e: usize, marks: &mut [u8]) -> bool
+        requires { (e < length self.starts.now) × (e < length self.ends.now) × (get_or self.starts.now e 0 < length marks.old)
+            × (get_or self.ends.now e 0 < length marks.old) }
+        ensures { let s = self.entry in ArcMarks (get_or s.starts.now e 0) (get_or s.ends.now e 0) marks.old marks.new result }
+    {
+        let start = self.starts[e] as usize;
+        let end = self.ends[e] as usize;
+        if marks[start] != 1 {
+            return false;
+        }
+        if marks[end] == 1 {
+            return false;
+        }
+        marks[end] = 1;
+        true
     }
-    if marks[end] == 1 {
-        return false;
-    }
-    marks[end] = 1;
-    true
 }

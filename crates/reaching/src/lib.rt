@@ -7,23 +7,21 @@ mod passes;
 
 ghost use Rattle.std.specs.Prelude.{◌≡◌, ◌≤◌, ◌<◌, length};
 ghost use Rattle.limits.specs.Limits.{max_nodes, max_arcs};
-ghost use Rattle.planfile.specs.Listed.{arcs_of};
-ghost use Rattle.marking.specs.Links.{link_graph, Within, Below};
+ghost use Rattle.marking.specs.Links.{Below};
+ghost use Rattle.marking.specs.Listed.{listed_in, graph_along, LeadWithin};
 ghost use Rattle.reaching.specs.Marks.{marks_of};
 
 use crate::passes::mark_all;
 use arc_rows::mark_rows;
-use planfile::fields::Listing;
+use marking::ListedArcs;
 
 // The marks of all sites: the slice has one entry for each.
-pub fn reach(listing: Listing, root: u16, starts: &[u16], ends: &[u16], marks: &mut [u8])
-    requires { (root < length marks.old) × (length marks.old ≤ max_nodes)
-        × Within (length marks.old) (arcs_of listing) starts.now ends.now × Below max_arcs (arcs_of listing) }
-    ensures { marks.new
-        ≡ marks_of (link_graph (length marks.old) starts.now ends.now) (arcs_of listing.entry) root }
+pub fn reach(arcs: ListedArcs, root: u16, marks: &mut [u8])
+    requires { (root < length marks.old) × (length marks.old ≤ max_nodes) × LeadWithin (length marks.old) arcs × Below max_arcs (listed_in arcs) }
+    ensures { let s = arcs.entry in (marks.new ≡ marks_of (graph_along (length marks.old) s) (listed_in s) root) }
 {
     marks.fill(0);
     marks[root as usize] = 1;
-    mark_rows(listing, root, starts, ends, marks);
-    mark_all(listing, starts, ends, marks);
+    mark_rows(arcs, root, marks);
+    mark_all(arcs, marks);
 }

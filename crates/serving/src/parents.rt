@@ -1,25 +1,23 @@
 // The parents of the sites: the start of the listed leg that ends at each site; and the way up from a site by the parents.
 ghost use Rattle.std.specs.Prelude.{◌≤◌, ◌<◌, length, get_or};
 ghost use Rattle.limits.specs.Limits.{max_nodes};
-ghost use Rattle.planfile.specs.Listed.{arcs_of};
-ghost use Rattle.marking.specs.Links.{Within};
+ghost use Rattle.marking.specs.Listed.{listed_in, LeadWithin};
 ghost use Rattle.serving.specs.Parents.{NoParents, Parents, Ways, Entered};
 
-use planfile::fields::Listing;
+use marking::ListedArcs;
 use subset::Subset;
 
 // No listed leg ends at the site. The table has an entry of two bytes for each site: fixed memory.
 pub const NO_PARENT: u16 = 65_535;
 
 // The start of each listed leg is the parent of its end.
-pub fn set_parents(listing: Listing, starts: &[u16], ends: &[u16], parents: &mut [u16])
-    requires { Within (length parents.old) (arcs_of listing) starts.now ends.now
-        × NoParents parents.old × (length parents.old ≤ max_nodes) }
-    ensures { Parents (λ e. get_or starts.now e 0) (λ e. get_or ends.now e 0) (arcs_of listing.entry) parents.new }
+pub fn set_parents(arcs: ListedArcs, parents: &mut [u16])
+    requires { LeadWithin (length parents.old) arcs × NoParents parents.old × (length parents.old ≤ max_nodes) }
+    ensures { let s = arcs.entry in Parents (λ e. get_or s.starts.now e 0) (λ e. get_or s.ends.now e 0) (listed_in s) parents.new }
 {
-    for i in 0..listing.count {
-        let e = listing.arc(i);
-        parents[ends[e] as usize] = starts[e];
+    for i in 0..arcs.listing.count {
+        let e = arcs.listing.arc(i);
+        parents[arcs.ends[e] as usize] = arcs.starts[e];
     }
 }
 

@@ -4,8 +4,8 @@ use Rattle.lent_tables.specs.SheetTables.{sheet_tables}
 use Rattle.file_reader.proofs.laws.Against.{arcs_ready, arcs_judged}
 use Rattle.file_reader.proofs.read_file.Goals as goal
 
-pub invariant_of-listing : goal.invariant_of-listing
-invariant_of-listing c =
+pub invariant_of-listed : goal.invariant_of-listed
+invariant_of-listed c =
     let a = c.args in
     let t = sheet_tables a.starts.now a.ends.now a.weights.now a.landings.now in
     record { whole = (arcs_ready a.n a.k a.arcs t a.marks.now a.file.now c.requires _ c.in_ok-head.ensures).whole }

@@ -6,8 +6,8 @@ use Rattle.lent_tables.specs.SheetTables.{sheet_tables}
 use Rattle.file_shares.proofs.laws.Shared.{shares_part, plan_ready, some_plan, share_accepted}
 use Rattle.file_shares.proofs.share_file.Goals as goal
 
-pub invariant_of-listing : goal.invariant_of-listing
-invariant_of-listing c =
+pub invariant_of-listed : goal.invariant_of-listed
+invariant_of-listed c =
     let a = c.args in
     let t = sheet_tables a.starts.now a.ends.now a.weights.now a.landings.now in
     let (told, marks) = c.in_ok-plan.ensures in

@@ -5,5 +5,5 @@ use Rattle.reaching.proofs.passes.mark_all.Goals as goal
 
 pub returns : goal.returns
 returns c =
-    let a = c.args in
-    pass_completes _ a.starts.now a.ends.now _ _ _ c.loop.invariant c.mark_once.result c.loop-test.false c.mark_once.ensures
+    let s = c.args.arcs in
+    pass_completes _ s.starts.now s.ends.now _ _ _ c.loop.invariant c.mark_once.result c.loop-test.false c.mark_once.ensures

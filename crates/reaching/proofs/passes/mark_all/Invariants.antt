@@ -2,14 +2,13 @@
 -- nodes that are not marked.
 -- Assumes nothing.
 use Rattle.std.proofs.Common.{length}
-use Rattle.planfile.specs.Listed.{arcs_of}
-use Rattle.marking.specs.Links.{link_graph}
+use Rattle.marking.specs.Listed.{listed_in, graph_along}
 use Rattle.marking.specs.Marking.{Carried}
 use Rattle.reaching.specs.Passes.{unmarked}
 use Rattle.reaching.proofs.passes.mark_all.Given as goal
 
 abbrev pub invariant-loop : goal.invariant-loop
-invariant-loop l = Carried (link_graph (length l.initial.marks) l.starts l.ends) (arcs_of l.listing) l.initial.marks l.marks
+invariant-loop l = Carried (graph_along (length l.initial.marks) l.arcs) (listed_in l.arcs) l.initial.marks l.marks
 
 abbrev pub decreases-loop : goal.decreases-loop
 decreases-loop l = unmarked (length l.initial.marks) l.marks

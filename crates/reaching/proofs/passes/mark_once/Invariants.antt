@@ -2,10 +2,9 @@
 -- Assumes nothing.
 use Rattle.std.proofs.Common.{length}
 use Rattle.planfile.specs.Format.{arcs_to}
-use Rattle.planfile.specs.Listed.{arcs_of}
-use Rattle.marking.specs.Links.{link_graph}
+use Rattle.marking.specs.Listed.{listed_in, graph_along}
 use Rattle.reaching.specs.Passes.{Passing}
 use Rattle.reaching.proofs.passes.mark_once.Given as goal
 
 abbrev pub invariant-loop-i : goal.invariant-loop-i
-invariant-loop-i l = Passing (link_graph (length l.initial.marks) l.starts l.ends) (arcs_of l.listing) (arcs_to l.listing.file.now l.i) l.initial.marks l.marks l.marked
+invariant-loop-i l = Passing (graph_along (length l.initial.marks) l.arcs) (listed_in l.arcs) (arcs_to l.arcs.listing.file.now l.i) l.initial.marks l.marks l.marked

@@ -6,7 +6,7 @@ use Rattle.serving.proofs.parents.set_parents.Goals as goal
 
 pub loop-i-preserved : goal.loop-i-preserved
 loop-i-preserved c =
-    let a = c.args in
+    let s = c.args.arcs in
     let pre = c.requires in
-    parents_listed a.listing.file.now a.starts.now a.ends.now a.listing.count (length a.parents.now) _ c.arc-e.result pre.0 pre.2 c.loop-i-test.true
+    parents_listed s.listing.file.now s.starts.now s.ends.now s.listing.count (length c.args.parents.now) _ c.arc-e.result pre.0 pre.2 c.loop-i-test.true
     c.arc-e.ensures.number c.loop-i.parents c.loop-i.auto.parents c.loop-i.invariant

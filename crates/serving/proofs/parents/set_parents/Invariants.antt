@@ -6,4 +6,4 @@ use Rattle.serving.specs.Parents.{Parents}
 use Rattle.serving.proofs.parents.set_parents.Given as goal
 
 abbrev pub invariant-loop-i : goal.invariant-loop-i
-invariant-loop-i l = Parents (λ e. get_or l.starts e 0) (λ e. get_or l.ends e 0) (arcs_to l.listing.file.now l.i) l.parents
+invariant-loop-i l = Parents (λ e. get_or l.arcs.starts.now e 0) (λ e. get_or l.arcs.ends.now e 0) (arcs_to l.arcs.listing.file.now l.i) l.parents
