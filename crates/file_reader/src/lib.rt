@@ -5,7 +5,7 @@
 ghost use Rattle.std.specs.Prelude.{◌≡◌, length};
 ghost use Rattle.answer.specs.Stated.{stated};
 ghost use Rattle.lent_tables.specs.SheetTables.{sheet_tables};
-ghost use Rattle.graph.specs.HeldGraph.{graph_in};
+ghost use Rattle.loaded_sheet.specs.Held.{tables_of, graph_of};
 ghost use Rattle.lent_tables.specs.Lengths.{marks_only};
 ghost use Rattle.network.specs.HeldSheet.{HeldSheet};
 ghost use Rattle.marking.specs.Listed.{listed_in, graph_along};
@@ -17,6 +17,8 @@ ghost use Rattle.file_reader.specs.ArcsReady.{ArcsReady};
 
 use answer::Answer;
 use file_tests::open_file;
+use limits::Counts;
+use loaded_sheet::LoadedSheet;
 use marking::ListedArcs;
 use plan_tests::test_plan;
 use planfile::fields::Listing;
@@ -44,31 +46,21 @@ fn read_arcs(
     test_plan(arcs.listing, root, total, k, weights, landings, marks)
 }
 
-// A file, against the tables that hold a sheet with n sites, k stations and so many legs. The tables pass one by one, as the entry points that
-// docs/FUNCTIONS.md names have them.
-pub fn read_file(
-    file: &[u8],
-    n: u16,
-    k: u8,
-    arcs: u16,
-    starts: &[u16],
-    ends: &[u16],
-    weights: &[u32],
-    landings: &[u16],
-    marks: &mut [u8],
-) -> Answer
-    requires { let t = sheet_tables starts.now ends.now weights.now landings.now in HeldSheet n k arcs t (marks_only (length marks.old)) }
-    ensures { let G = graph_in n k arcs (sheet_tables starts.now ends.now weights.now landings.now) in
+// A file, against a loaded sheet.
+pub fn read_file(file: &[u8], sheet: LoadedSheet, marks: &mut [u8]) -> Answer
+    requires { HeldSheet sheet.counts.n sheet.counts.k sheet.counts.arcs (tables_of sheet) (marks_only (length marks.old)) }
+    ensures { let G = graph_of sheet.entry in
         ((stated result ≡ answer_to G file.now) × (marks.new ≡ marks_after G file.now marks.old)) }
 {
+    let Counts { n, k, arcs } = sheet.counts;
     let head = open_file(file, n, arcs)?;
     let listed = ListedArcs {
         listing: Listing {
             file,
             count: head.count,
         },
-        starts,
-        ends,
+        starts: sheet.starts,
+        ends: sheet.ends,
     };
     let nodes = n as usize;
     read_arcs(
@@ -76,8 +68,8 @@ pub fn read_file(
         head.root,
         head.total,
         k,
-        weights,
-        landings,
+        sheet.weights,
+        sheet.landings,
         &mut marks[..nodes],
     )
 }

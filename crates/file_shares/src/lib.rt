@@ -5,7 +5,7 @@ ghost use Rattle.std.specs.Prelude.{◌≡◌, length};
 ghost use Rattle.answer.specs.Stated.{stated_sharing};
 ghost use Rattle.lent_tables.specs.SheetTables.{sheet_tables};
 ghost use Rattle.graph.specs.Graph.{Graph};
-ghost use Rattle.graph.specs.HeldGraph.{graph_in};
+ghost use Rattle.loaded_sheet.specs.Held.{tables_of, graph_of};
 ghost use Rattle.lent_tables.specs.Lengths.{share_lengths};
 ghost use Rattle.network.specs.HeldSheet.{HeldSheet};
 ghost use Rattle.file_reader.specs.FileAnswer.{marks_after};
@@ -14,7 +14,8 @@ ghost use Rattle.file_shares.specs.PlanReady.{PlanReady, SomePlan, Divided};
 
 use answer::{Shared, Sharing};
 use file_reader::read_file;
-use limits::Cost;
+use limits::{Cost, Counts};
+use loaded_sheet::LoadedSheet;
 use marking::ListedArcs;
 use planfile::fields::Listing;
 use price_parts::split_listed;
@@ -47,43 +48,31 @@ fn divide(
     split_listed(arcs.listing, arcs.ends, weights, &served, shares)
 }
 
-// A file, against the tables that hold a sheet with n sites, k stations and so many legs. The tables pass one by one, as the entry points that
-// docs/FUNCTIONS.md names have them.
-pub fn share_file(
-    file: &[u8],
-    n: u16,
-    k: u8,
-    arcs: u16,
-    starts: &[u16],
-    ends: &[u16],
-    weights: &[u32],
-    landings: &[u16],
-    marks: &mut [u8],
-    shares: &mut [Cost],
-) -> Sharing
-    requires { let t = sheet_tables starts.now ends.now weights.now landings.now in
-        HeldSheet n k arcs t (share_lengths (length marks.old) (length shares.old)) }
-    ensures { let G = graph_in n k arcs (sheet_tables starts.now ends.now weights.now landings.now) in
+// A file, against a loaded sheet.
+pub fn share_file(file: &[u8], sheet: LoadedSheet, marks: &mut [u8], shares: &mut [Cost]) -> Sharing
+    requires { HeldSheet sheet.counts.n sheet.counts.k sheet.counts.arcs (tables_of sheet) (share_lengths (length marks.old) (length shares.old)) }
+    ensures { let G = graph_of sheet.entry in
         ((stated_sharing result ≡ sharing_to G file.now)
         × ((marks.new ≡ marks_after G file.now marks.old)
         × (shares.new ≡ shares_after G file.now shares.old))) }
 {
-    let plan = read_file(file, n, k, arcs, starts, ends, weights, landings, marks)?;
+    let Counts { n, k, arcs: _ } = sheet.counts;
+    let plan = read_file(file, sheet, marks)?;
     let listed = ListedArcs {
         listing: Listing {
             file,
             count: plan.arcs,
         },
-        starts,
-        ends,
+        starts: sheet.starts,
+        ends: sheet.ends,
     };
     let nodes = n as usize;
     let terminals = k as usize;
     let unassigned = divide(
         listed,
         k,
-        weights,
-        landings,
+        sheet.weights,
+        sheet.landings,
         &marks[..nodes],
         &mut shares[..terminals],
     );

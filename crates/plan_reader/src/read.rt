@@ -10,7 +10,7 @@ ghost use Rattle.plan_reader.specs.Reader.{reading_of};
 use answer::Answer;
 use file_reader::read_file;
 use lent_tables::FurtherLengths;
-use limits::Counts;
+use loaded_sheet::LoadedSheet;
 use opener::open_sheet;
 
 // The plan reader.
@@ -32,6 +32,13 @@ pub fn read_plan(
         × ReaderAnswers sheet.now file.now before (stated result) after)) }
 {
     let further = FurtherLengths::of_marks(marks.len());
-    let Counts { n, k, arcs } = open_sheet(sheet, starts, ends, weights, landings, further)?;
-    read_file(file, n, k, arcs, starts, ends, weights, landings, marks)
+    let counts = open_sheet(sheet, starts, ends, weights, landings, further)?;
+    let loaded = LoadedSheet {
+        counts,
+        starts,
+        ends,
+        weights,
+        landings,
+    };
+    read_file(file, loaded, marks)
 }

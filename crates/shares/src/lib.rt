@@ -11,7 +11,8 @@ ghost use Rattle.shares.specs.SharesOf.{share_tables, sharing_of};
 use answer::Sharing;
 use file_shares::share_file;
 use lent_tables::FurtherLengths;
-use limits::{Cost, Counts};
+use limits::Cost;
+use loaded_sheet::LoadedSheet;
 use opener::open_sheet;
 
 // The sheet is opened, and the file is read against the tables that hold it and divided.
@@ -32,8 +33,13 @@ pub fn share_plan(
         run (stated_sharing result) after ≡ sharing_of sheet.now file.now before }
 {
     let further = FurtherLengths::of_shares(marks.len(), shares.len());
-    let Counts { n, k, arcs } = open_sheet(sheet, starts, ends, weights, landings, further)?;
-    share_file(
-        file, n, k, arcs, starts, ends, weights, landings, marks, shares,
-    )
+    let counts = open_sheet(sheet, starts, ends, weights, landings, further)?;
+    let loaded = LoadedSheet {
+        counts,
+        starts,
+        ends,
+        weights,
+        landings,
+    };
+    share_file(file, loaded, marks, shares)
 }

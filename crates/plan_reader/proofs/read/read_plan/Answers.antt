@@ -18,10 +18,10 @@ read_file-requires c =
     let t = sheet_tables a.starts.now a.ends.now a.weights.now a.landings.now in
     let f = marks_only (length a.marks.now) in
     let bytes = known_bytes a.sheet.now (λ i. omega (arith, c.type_inv.sheet i)) in
-    opened_held a.sheet.now bytes t _ f _ _ _ (opened_sheet a.sheet.now t _ f _ _ c.of_marks-further.ensures c.open_sheet.ensures _ _ _ c.in_ok-n.was)
+    opened_held a.sheet.now bytes t _ f _ _ _ (opened_sheet a.sheet.now t _ f _ _ c.of_marks-further.ensures c.open_sheet.ensures _ _ _ c.in_ok-counts.was)
 
-pub returns-in_err-n : goal.returns-in_err-n
-returns-in_err-n c =
+pub returns-in_err-counts : goal.returns-in_err-counts
+returns-in_err-counts c =
     let a = c.args in
     let t = sheet_tables a.starts.now a.ends.now a.weights.now a.landings.now in
     let f = marks_only (length a.marks.now) in
@@ -29,7 +29,7 @@ returns-in_err-n c =
     let p = err_from_is_err_and c.from_residual.result c.from_residual.ensures.1 in
     rw (p.1, p.2)
     (cites_points a.sheet.now a.file.now file_bytes_lem (reader_tables t a.marks.now) _ _
-    (refusal_read a.sheet.now a.file.now (reader_tables t a.marks.now) (opened_refusal a.sheet.now t _ f _ _ c.of_marks-further.ensures c.open_sheet.ensures _ c.in_err-n.was)))
+    (refusal_read a.sheet.now a.file.now (reader_tables t a.marks.now) (opened_refusal a.sheet.now t _ f _ _ c.of_marks-further.ensures c.open_sheet.ensures _ c.in_err-counts.was)))
 
 pub returns : goal.returns
 returns c =
@@ -39,4 +39,4 @@ returns c =
     let bytes = known_bytes a.sheet.now (λ i. omega (arith, c.type_inv.sheet i)) in
     let file_bytes_lem = known_bytes a.file.now (λ i. omega (arith, c.type_inv.file i)) in
     cites_points a.sheet.now a.file.now file_bytes_lem (reader_tables t a.marks.now) _ _
-    (whole_read a.sheet.now a.file.now (reader_tables t a.marks.now) bytes (opened_sheet a.sheet.now t _ f _ _ c.of_marks-further.ensures c.open_sheet.ensures _ _ _ c.in_ok-n.was) _ _ c.read_file.ensures.0 c.read_file.ensures.1)
+    (whole_read a.sheet.now a.file.now (reader_tables t a.marks.now) bytes (opened_sheet a.sheet.now t _ f _ _ c.of_marks-further.ensures c.open_sheet.ensures _ _ _ c.in_ok-counts.was) _ _ c.read_file.ensures.0 c.read_file.ensures.1)
