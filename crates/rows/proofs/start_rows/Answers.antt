@@ -7,4 +7,4 @@ use Rattle.rows.proofs.start_rows.Goals as goal
 pub loop-v-preserved : goal.loop-v-preserved
 loop-v-preserved c =
     rows_next c.requires.2 c.loop-v-test.true c.loop-v.invariant (search rules)
-        (started_row c.terminals_in.ensures c.start_row.ensures)
+    (started_row c.terminals_in.ensures c.start_row.ensures)
