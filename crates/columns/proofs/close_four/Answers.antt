@@ -1,9 +1,7 @@
 -- `columns::close_four` meets its contract.
 -- Assumes nothing.
-use Rattle.std.proofs.Common.{◌∙◌, arith}
 use Rattle.columns.specs.laws.Searched.{taken_some, turned_lanes}
 use Rattle.columns.specs.laws.ClosedCells.{four_closed}
-use Rattle.columns.specs.laws.NoneFinite.{none_closed}
 use Rattle.columns.proofs.close_four.Goals as goal
 
 pub lower_by_turns-requires : goal.lower_by_turns-requires

@@ -1,9 +1,9 @@
 -- `columns::close_sets` meets its contract.
 -- Assumes nothing.
-use Rattle.std.proofs.Common.{◌+◌, ◌∙◌, arith, length}
+use Rattle.std.proofs.Common.{◌+◌, ◌∙◌, arith}
 use Rattle.lent_tables.specs.SheetTables.{arcs_alone}
 use Rattle.order_ranges.specs.laws.Ranges.{entry_of}
-use Rattle.columns.specs.laws.ClosedCells.{SetsClosed, sets_none, sets_tables, four_small, sets_next, sets_all}
+use Rattle.columns.specs.laws.ClosedCells.{SetsClosed, sets_tables, four_small, sets_next, sets_all}
 use Rattle.columns.proofs.close_sets.Goals as goal
 use Rattle.columns.proofs.close_sets.Goals.{After-close_four}
 

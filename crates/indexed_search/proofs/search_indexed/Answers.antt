@@ -1,8 +1,7 @@
 -- `indexed_search::search_indexed` meets its contract.
 -- Assumes nothing.
-use Rattle.std.proofs.Common.{ap₂, rules}
-use Rattle.lent_tables.specs.IndexTables.{index_tables}
-use Rattle.network.proofs.HeldSheet.{ends_below, held_index}
+use Rattle.std.proofs.Common.{rules}
+use Rattle.network.proofs.HeldSheet.{held_index}
 use Rattle.indexed_search.proofs.search_indexed.Goals as goal
 
 pub search-requires : goal.search-requires

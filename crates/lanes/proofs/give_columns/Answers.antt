@@ -1,8 +1,7 @@
 -- `lanes::give_columns` meets its contract.
 -- Assumes nothing.
-use Rattle.std.proofs.Common.{◌-◌, ◌<◌, arith}
-use Rattle.cost_table.proofs.laws.Rows.{row_fits}
-use Rattle.lanes.specs.laws.Columns.{give_none, give_next, given_all}
+use Rattle.std.proofs.Common.{arith}
+use Rattle.lanes.specs.laws.Columns.{give_next}
 use Rattle.lanes.proofs.give_columns.Goals as goal
 
 pub loop-v-preserved : goal.loop-v-preserved

@@ -1,6 +1,6 @@
 -- `order_ranges::sets_below` meets its contract.
 -- Assumes nothing.
-use Rattle.std.proofs.Common.{◌-◌, refl, arith, inl, inr}
+use Rattle.std.proofs.Common.{refl, inl, inr}
 use Rattle.order_ranges.specs.laws.Kept.{kept_none, kept_next, kept_all}
 use Rattle.order_ranges.proofs.sets_below.Goals as goal
 use Rattle.order_ranges.proofs.sets_below.Goals.{then-w-size, else-w-size}

@@ -1,6 +1,6 @@
 -- `search::fill` meets its contract.
 -- Assumes nothing.
-use Rattle.std.proofs.Common.{◌-◌, refl, sym, ◌∙◌, arith, length-take-le}
+use Rattle.std.proofs.Common.{refl, ◌∙◌, arith, length-take-le}
 use Rattle.search.specs.laws.Whole.{start_asked, some_set, sets_in, split_asked, close_asked, fill_start, fill_next, fill_end, relent_length}
 use Rattle.search.proofs.fill.Goals as goal
 

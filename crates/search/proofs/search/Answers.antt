@@ -1,7 +1,7 @@
 -- `search::search` meets its contract.
 -- Assumes nothing.
-use Rattle.std.proofs.Common.{sym, arith, length-take-le, rules}
-use Rattle.search.specs.laws.Whole.{total_fits, size_fits, total_long, fill_asked, cells_over, marks_over}
+use Rattle.std.proofs.Common.{arith, rules}
+use Rattle.search.specs.laws.Whole.{size_fits, fill_asked}
 use Rattle.search.specs.laws.KeptArcs.{index_asked, kept_indexed, kept_covers}
 use Rattle.search.proofs.search.Goals as goal
 

@@ -1,7 +1,6 @@
 -- `set_ranges::end_of_size` meets its contract: it is the end of the positions of one size.
 -- Assumes nothing.
-use Rattle.std.proofs.Common.{arith, refl}
-use Rattle.set_ranges.specs.laws.Listed.{few_sets, size_end}
+use Rattle.set_ranges.specs.laws.Listed.{size_end}
 use Rattle.set_ranges.proofs.end_of_size.Goals as goal
 
 pub returns : goal.returns

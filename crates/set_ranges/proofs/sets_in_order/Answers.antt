@@ -1,8 +1,7 @@
 -- `set_ranges::sets_in_order` meets its contract: the index of the sets by their size is their order.
 -- Assumes nothing.
-use Rattle.std.proofs.Common.{refl, sym, arith, length-take-le}
-use Rattle.lists.specs.Over.{relent_length}
-use Rattle.set_ranges.specs.laws.Listed.{few_sets, few_sizes, index_asked, sets_listed}
+use Rattle.std.proofs.Common.{refl, sym, length-take-le}
+use Rattle.set_ranges.specs.laws.Listed.{few_sets, index_asked, sets_listed}
 use Rattle.set_ranges.proofs.sets_in_order.Goals as goal
 
 pub slice_bounds-sizes-end : goal.slice_bounds-sizes-end

@@ -1,9 +1,7 @@
 -- `set_splits::best_splits` meets its contract.
 -- Assumes nothing.
-use Rattle.std.proofs.Common.{arith, sym, ◌∙◌}
-use Rattle.lanes.specs.laws.Four.{low_small}
-use Rattle.set_splits.specs.laws.FourCosts.{costs_low}
-use Rattle.set_splits.specs.laws.FreeParts.{rest_small, free_best}
+use Rattle.std.proofs.Common.{sym, ◌∙◌}
+use Rattle.set_splits.specs.laws.FreeParts.{free_best}
 use Rattle.set_splits.proofs.best_splits.Goals as goal
 
 pub returns-then-none_empty : goal.returns-then-none_empty

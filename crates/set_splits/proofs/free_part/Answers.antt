@@ -1,9 +1,8 @@
 -- `set_splits::free_part` meets its contract.
 -- Assumes nothing.
-use Rattle.std.proofs.Common.{◌-◌, arith, bit_and}
-use lib.Bits.{and_le_r}
+use Rattle.std.proofs.Common.{arith}
 use Rattle.set_splits.specs.laws.FourCosts.{set_costs}
-use Rattle.set_splits.specs.laws.FreeParts.{no_part, lowest_free}
+use Rattle.set_splits.specs.laws.FreeParts.{lowest_free}
 use Rattle.set_splits.proofs.free_part.Goals as goal
 
 pub returns : goal.returns

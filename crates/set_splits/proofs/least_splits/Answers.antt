@@ -1,9 +1,8 @@
 -- `set_splits::least_splits` meets its contract.
 -- Assumes nothing.
-use Rattle.std.proofs.Common.{◌-◌, ◌*◌, sym, ◌∙◌, arith}
-use lib.Bits.{and_le_l}
-use Rattle.set_splits.specs.laws.BestSplit.{others, four_no_more}
-use Rattle.set_splits.specs.laws.PairSums.{pair_small, at_none, at_within, at_asked, at_small, at_next, at_all}
+use Rattle.std.proofs.Common.{sym, ◌∙◌, arith}
+use Rattle.set_splits.specs.laws.BestSplit.{four_no_more}
+use Rattle.set_splits.specs.laws.PairSums.{pair_small, at_none, at_asked, at_small, at_next, at_all}
 use Rattle.set_splits.proofs.least_splits.Goals as goal
 
 pub returns-then-not-both_finite : goal.returns-then-not-both_finite

@@ -1,6 +1,5 @@
 -- `set_splits::least_splits` meets its contract. The loop's invariant: the pairs of splits by the parts above y have been tried. The measure is y.
 -- Assumes nothing.
-use Rattle.std.proofs.Common.{◌-◌}
 use Rattle.set_splits.specs.laws.PairSums.{TriedAt}
 use Rattle.set_splits.proofs.least_splits.Given as goal
 

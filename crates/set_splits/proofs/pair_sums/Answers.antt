@@ -1,9 +1,7 @@
 -- `set_splits::pair_sums` meets its contract.
 -- Assumes nothing.
-use Rattle.std.proofs.Common.{◌+◌, arith, ◌∙◌, ap₂}
-use Rattle.set_splits.specs.laws.FourCosts.{sum_four, sum_small}
-use Rattle.set_splits.specs.laws.PairSums.{from_fits, first_low, second_low}
-use Rattle.lanes.specs.laws.Four.{less_four}
+use Rattle.set_splits.specs.laws.FourCosts.{sum_small}
+use Rattle.set_splits.specs.laws.PairSums.{first_low, second_low}
 use Rattle.set_splits.proofs.pair_sums.Goals as goal
 
 pub sum_of-one-requires : goal.sum_of-one-requires

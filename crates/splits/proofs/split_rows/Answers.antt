@@ -1,7 +1,7 @@
 -- `splits::split_rows` meets its contract.
 -- Assumes nothing.
-use Rattle.std.proofs.Common.{◌-◌, ◌∙◌, arith}
-use Rattle.splits.specs.laws.SplitRows.{to_skip, next_rows, to_after}
+use Rattle.std.proofs.Common.{◌∙◌, arith}
+use Rattle.splits.specs.laws.SplitRows.{to_skip, to_after}
 use Rattle.splits.proofs.split_rows.Goals as goal
 
 pub loop-v-smaller : goal.loop-v-smaller

@@ -1,7 +1,7 @@
 -- `turns::lower_by_turns` meets its contract.
 -- Assumes nothing.
-use Rattle.std.proofs.Common.{◌∙◌, refl}
-use Rattle.visits.specs.laws.ByIndex.{still_some, index_more, index_none}
+use Rattle.std.proofs.Common.{◌∙◌}
+use Rattle.visits.specs.laws.ByIndex.{still_some, index_more}
 use Rattle.turns.proofs.lower_by_turns.Goals as goal
 
 pub take_turns-requires : goal.take_turns-requires

@@ -1,7 +1,7 @@
 -- `turns::take_turns` meets its contract.
 -- Assumes nothing.
 use Rattle.std.proofs.Common.{◌∙◌, arith}
-use Rattle.visits.specs.laws.ByIndex.{still_some, index_more, index_none}
+use Rattle.visits.specs.laws.ByIndex.{still_some, index_more}
 use Rattle.turns.proofs.take_turns.Goals as goal
 
 pub visit-new-requires : goal.visit-new-requires

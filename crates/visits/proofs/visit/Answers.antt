@@ -1,10 +1,10 @@
 -- `visits::visit` meets its contract.
 -- Assumes nothing.
-use Rattle.std.proofs.Common.{◌+◌, ◌-◌, ◌≤◌, ◌∙◌, arith}
+use Rattle.std.proofs.Common.{◌≤◌, ◌∙◌, arith}
 use Rattle.working_none.specs.laws.Low.{entry}
 use Rattle.settling.specs.laws.LowerFour.{along_small}
-use Rattle.settling.specs.laws.ByIndex.{InGroup, at_node, here_low}
-use Rattle.visits.specs.laws.ByIndex.{still_some, index_none, index_length, in_group, group_from, group_arc}
+use Rattle.settling.specs.laws.ByIndex.{InGroup, here_low}
+use Rattle.visits.specs.laws.ByIndex.{still_some, in_group, group_from, group_arc}
 use Rattle.visits.proofs.visit.Goals as goal
 use Rattle.visits.proofs.visit.Given.{Over}
 use Rattle.visits.proofs.visit.Goals.{In-Some}

@@ -1,7 +1,7 @@
 -- `Legs::first_open` meets its contract.
 -- Assumes nothing.
-use Rattle.std.proofs.Common.{◌+◌, arith}
-use Rattle.settling.specs.laws.ByIndex.{at_node, here_low, known_from, before_none, before_next, open_here, within_all, falling_end, open_none}
+use Rattle.std.proofs.Common.{arith}
+use Rattle.settling.specs.laws.ByIndex.{before_next, open_here, within_all, falling_end, open_none}
 use Rattle.settling.proofs.Legs.first_open.Goals as goal
 
 pub returns-in-Some : goal.returns-in-Some

@@ -2,7 +2,7 @@
 -- Assumes nothing.
 use Rattle.std.proofs.Common.{refl, arith}
 use Rattle.settling.specs.laws.LowerFour.{along_asked, along_small}
-use Rattle.settling.specs.laws.Lowered.{along_arc, passed_none, passed_next, passed_all, still_lanes}
+use Rattle.settling.specs.laws.Lowered.{along_arc, passed_next, still_lanes}
 use Rattle.settling.proofs.Legs.lower_from.Goals as goal
 
 pub lower-requires : goal.lower-requires

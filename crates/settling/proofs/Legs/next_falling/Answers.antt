@@ -1,8 +1,7 @@
 -- `Legs::next_falling` meets its contract.
 -- Assumes nothing.
 use Rattle.std.proofs.Common.{arith}
-use Rattle.settling.specs.laws.LowerFour.{along_small}
-use Rattle.settling.specs.laws.ByIndex.{InGroup, falls_none, falls_next, falls_found, falls_not}
+use Rattle.settling.specs.laws.ByIndex.{falls_next}
 use Rattle.settling.proofs.Legs.next_falling.Goals as goal
 
 pub offset_bounds-self-i : goal.offset_bounds-self-i

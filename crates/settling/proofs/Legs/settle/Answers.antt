@@ -1,7 +1,7 @@
 -- `Legs::settle` meets its contract.
 -- Assumes nothing.
-use Rattle.std.proofs.Common.{refl, arith}
-use Rattle.settling.specs.laws.Lowered.{lowered_none, lowered_more, sum_falls, settled_end}
+use Rattle.std.proofs.Common.{refl}
+use Rattle.settling.specs.laws.Lowered.{sum_falls, settled_end}
 use Rattle.settling.specs.laws.Settling.{still_asked, some_arcs, first_of}
 use Rattle.settling.proofs.Legs.settle.Goals as goal
 

@@ -1,7 +1,7 @@
 -- `Choice::next` meets its contract: the ways without the highest station stand before those with it.
 -- Assumes nothing.
 use Rattle.std.proofs.Common.{arith}
-use Rattle.subset_at.specs.laws.Choices.{product_le, with_le, ways_without, same_without, size_some, same_with, ways_with}
+use Rattle.subset_at.specs.laws.Choices.{product_le, with_le, ways_without, same_without, same_with, ways_with}
 use Rattle.subset_at.proofs.Choice.next.Goals as goal
 
 pub overflow_mul-with : goal.overflow_mul-with

@@ -1,6 +1,6 @@
 -- `size_range` meets its contract.
 -- Assumes nothing.
-use Rattle.std.proofs.Common.{◌-◌, arith}
+use Rattle.std.proofs.Common.{arith}
 use Rattle.subset_at.specs.laws.Sizes.{first_size, in_stations, last_small, size_product, next_size, size_found}
 use Rattle.subset_at.proofs.sizes.size_range.Goals as goal
 
