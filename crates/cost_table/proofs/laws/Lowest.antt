@@ -1,7 +1,7 @@
 -- The search for the lowest of the numbers at which a function is least, number after number.
 -- Assumes nothing.
 use Rattle.std.specs.Prelude.{ℕ, ◌+◌, ◌≤◌, ◌≡◌, Bool, cond, ltb}
-use Rattle.std.proofs.Common.{sym, ap, ap₂, ◌∙◌, arith, ltb→lt, nltb→le}
+use Rattle.std.proofs.Common.{sym, ap, ap₂, ◌∙◌, subst, arith, ltb→lt, nltb→le}
 use Rattle.lists.specs.Tests.{by_fact}
 use Rattle.lists.specs.Below.{below_more}
 use Rattle.cost_table.specs.Cheapest.{LowestTo}
@@ -36,7 +36,14 @@ module _ (f : ℕ → ℕ) where
         lowest = h.lowest;
       })
 
+  pub lowest_next : (n r q : ℕ) → LowestTo f n r → q ≡ cond (ltb (f n) (f r)) n r → LowestTo f (n + 1) q
+  lowest_next n r q h e = rw e (lowest_more n r h)
+
   -- the choice between two numbers at which the function is x and y, as a comparison of x and y makes it
   pub chosen : (first second x y : ℕ) → y ≡ f second → x ≡ f first → (b : Bool) → ltb y x ≡ b
       → cond (ltb (f second) (f first)) second first ≡ cond b second first
   chosen first second x y there here b t = ap (λ (c : Bool). cond c second first) (ap₂ ltb (sym there) (sym here) ∙ t)
+
+  -- of all numbers
+  pub lowest_all : (n i r : ℕ) → i ≡ n → LowestTo f i r → LowestTo f n r
+  lowest_all n i r e h = subst (λ (j : ℕ). LowestTo f j r) e h

@@ -1,9 +1,9 @@
 -- A file read against the tables that hold a sheet: the marks and the tests that the code makes are those of the graph that the tables hold.
 -- Assumes nothing.
-use Rattle.std.specs.Prelude.{Ok, ℕ, ◌+◌, ◌<◌, ◌≡◌, refl, Bool, true, false, T, eqb, length, get_or, take}
+use Rattle.std.specs.Prelude.{Ok, Err, ℕ, ◌+◌, ◌<◌, ◌≡◌, refl, Bool, true, false, T, eqb, length, get_or, take}
 use Rattle.std.proofs.Math.Path.{sym, ap, ap₂}
 use Rattle.std.proofs.Common.{◌∙◌, subst, arith, length-take}
-use Rattle.std.proofs.Math.Option.{Option}
+use Rattle.std.proofs.Math.Option.{Option, some}
 use mathlib.Core.List.{List, [], ◌++◌}
 use Rattle.std.proofs.Math.ListN.{drop}
 use Rattle.lists.specs.Every.{Every}
@@ -12,7 +12,7 @@ use Rattle.lists.specs.Numbers.{length_values}
 use Rattle.lists.specs.Tests.{true_fact}
 use Rattle.subset.specs.Sets.{full, is_part}
 use Rattle.landing_entries.specs.Entries.{sender_in}
-use Rattle.answer.specs.Stated.{Stated}
+use Rattle.answer.specs.Stated.{Stated, stated_plan_file}
 use Rattle.answer.specs.declared.PlanFault.{PlanFault}
 use Rattle.graph.specs.Graph.{Graph}
 use Rattle.lent_tables.specs.SheetTables.{SheetTables, arcs_alone}
@@ -27,7 +27,7 @@ use Rattle.file_tests.specs.FileFaults.{file_fault, or_else}
 use Rattle.file_tests.specs.Tested.{opened_of}
 use Rattle.file_tests.specs.declared.Head.{Head}
 use Rattle.file_tests.proofs.laws.Faults.{FileOk, file_passed, listed_on}
-use Rattle.file_tests.proofs.laws.Returned.{FieldsOf, opened_fields}
+use Rattle.file_tests.proofs.laws.Returned.{FieldsOf, opened_fields, opened_fault}
 use Rattle.marking.specs.Links.{link_graph, Within}
 use Rattle.reaching.specs.Marks.{marks_of}
 use Rattle.reaching.specs.laws.MarkLaws.{marks_size, marks_agree}
@@ -43,6 +43,14 @@ module _ (n k m : ℕ) (t : SheetTables) (marks file : List ℕ) (ready : HeldSh
 
   part_size : length (take n marks) ≡ n
   part_size = omega (arith, length-take n marks, ready.long.further.marks)
+
+  -- a fault of the file by itself
+  pub fault_read : (f : PlanFault) → Err f ≡ opened_of n m file → (stated_plan_file f ≡ answer_to G file) × (marks ≡ marks_after G file marks)
+  fault_read f e =
+      let q : file_fault n m file ≡ some f = opened_fault (file_fault n m file) file f e in (
+        sym (ap (λ (o : Option PlanFault). answered (or_else o (tree_fault G file)) file) q),
+        sym (ap (λ (o : Option PlanFault). marks_by o G file marks) q),
+      )
 
   module _ (head : Head) (e : Ok head ≡ opened_of n m file) where
     abbrev root : ℕ

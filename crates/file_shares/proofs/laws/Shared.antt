@@ -11,7 +11,7 @@ use Rattle.answer.proofs.laws.OneToOne.{refusal_stated}
 use Rattle.answer.specs.declared.PlanFault.{PlanFault}
 use Rattle.answer.specs.declared.Refusal.{Refusal}
 use Rattle.lent_tables.specs.SheetTables.{SheetTables}
-use Rattle.lent_tables.specs.Lengths.{share_lengths}
+use Rattle.lent_tables.specs.Lengths.{marks_only, share_lengths}
 use Rattle.graph.specs.Graph.{Graph}
 use Rattle.graph.specs.HeldGraph.{graph_in, start_in, end_in, weight_in, landings_in}
 use Rattle.graph.specs.Subtrees.{Subtree}
@@ -39,6 +39,21 @@ refusal_stays G file shares refusal =
 module _ (n k m : ℕ) (t : SheetTables) (marks shares file : List ℕ) (ready : HeldSheet n k m t (share_lengths (length marks) (length shares))) where
   abbrev G : Graph
   G = graph_in n k m t
+
+  -- what the plan reader asks for
+  pub read_held : HeldSheet n k m t (marks_only (length marks))
+  read_held = record {
+    nodes = ready.nodes;
+    terminals = ready.terminals;
+    few_arcs = ready.few_arcs;
+    sound = ready.sound;
+    weights_low = ready.weights_low;
+    room = ready.room;
+    long = record {
+      tables = ready.long.tables;
+      further = record { by_end = tt; places = tt; cells = tt; marks = ready.long.further.marks; shares = tt };
+    };
+  }
 
   pub marks_part : (after : List ℕ) → length after ≡ length marks → n ≡ length (take n after)
   marks_part after same = omega (arith, length-take n after, ready.long.further.marks)

@@ -30,6 +30,10 @@ pub opened_fields : (o : Option PlanFault) (file : List ℕ) (head : Head) → O
 opened_fields none file head e = record { no_fault = refl; root_is = cc e; total_is = cc e; count_is = cc e }
 opened_fields (some f) file head e = let z : ◌≡◌ {A = ℕ} 0 1 = cc e in absurd (omega arith)
 
+pub fields_opened : (o : Option PlanFault) (file : List ℕ) (head : Head) → FieldsOf o file head.root head.total head.count → Ok head ≡ opened_as o file
+fields_opened (some fault) file head f = let z : ◌≡◌ {A = ℕ} 0 1 = cc f.no_fault in absurd (omega arith)
+fields_opened none file head f = λ i. Ok (record { root = f.root_is i; total = f.total_is i; count = f.count_is i })
+
 pub opened_fault : (o : Option PlanFault) (file : List ℕ) (f : PlanFault) → Err f ≡ opened_as o file → o ≡ some f
 opened_fault none file f e = let z : ◌≡◌ {A = ℕ} 0 1 = cc e in absurd (omega arith)
 opened_fault (some g) file f e = cc e
