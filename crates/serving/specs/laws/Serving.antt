@@ -33,6 +33,14 @@ module _ (f : ℕ → Bool) (n : ℕ) where
   pub found_none : ((j : ℕ) → j < n → f j ≡ false) → found_at None ≡ first f n
   found_none before = sym (first_none f n (λ j s. false_not_fact (before j s)))
 
+-- what was found, by whether a number was
+module _ {o : Option ℕ} where
+  pub found_some : {v : ℕ} → found_at (Some v) ≡ o → some v ≡ o
+  found_some e = e
+
+  pub found_nothing : found_at None ≡ o → none ≡ o
+  found_nothing e = e
+
 -- where no number below v passes, and v does not, none below v + 1 passes
 pub none_before : (f : ℕ → Bool) (v : ℕ) → ((j : ℕ) → j < v → f j ≡ false) → f v ≡ false → (j : ℕ) → j < v + 1 → f j ≡ false
 none_before f v before here j l = go (ℕ_discrete j v)
