@@ -24,7 +24,7 @@ fn follow(sheet: CostedSheet, v: u16, w: Subset, out: &mut [u16], at: usize) -> 
     ensures { let s = sheet.entry in Stored (laid (costed_graph s) s.cells.now v w.0) at result out.old out.new }
 {
     match walk(sheet, v, w, out, at) {
-        Stop::Done { place } => place,
+        Stop::Done { place, .. } => place,
         Stop::Stuck { node, place } => split(sheet, node, w, out, place),
     }
 }

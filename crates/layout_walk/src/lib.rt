@@ -14,7 +14,7 @@ use subset::Subset;
 // a site where something is to be added, and no leg fits.
 #[derive(Clone, Copy)]
 pub enum Stop {
-    Done { place: usize },
+    Done { node: u16, place: usize },
     Stuck { node: u16, place: usize },
 }
 
@@ -33,5 +33,5 @@ pub fn walk(sheet: CostedSheet, v: u16, w: Subset, out: &mut [u16], at: usize) -
         place += 1;
         node = sheet.ends[e as usize];
     }
-    Stop::Done { place }
+    Stop::Done { node, place }
 }

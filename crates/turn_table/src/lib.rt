@@ -3,6 +3,7 @@
 
 ghost use Rattle.std.specs.Prelude.{◌≡◌, ◌+◌, ◌*◌, ◌<◌, ◌≤◌, length};
 ghost use Rattle.limits.specs.Limits.{max_nodes};
+ghost use Rattle.turn_table.specs.Rounds.{round_of};
 ghost use Rattle.turn_table.specs.laws.Entries.{turn_entries, key_limit};
 
 use lanes::{Four, lanes_of};
@@ -33,6 +34,8 @@ pub enum Round {
 
 // A round by its number: 0, 1, or a later one.
 impl From<u8> for Round {
+    ghost from_gives = { λ number round. round ≡ round_of number };
+
     fn from(number: u8) -> Round {
         match number {
             0 => Round::AllWait,

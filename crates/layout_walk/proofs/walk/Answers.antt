@@ -8,9 +8,7 @@ pub fitting_arc-requires : goal.fitting_arc-requires
 fitting_arc-requires c = arcs_held c.requires.0 c.loop-w.invariant
 
 pub returns-in_default : goal.returns-in_default
-returns-in_default c =
-    let walked = c.loop-w.invariant in
-    (walked, walk_stops c.requires.0 walked c.is_done.ensures c.loop-w-test.true c.in_default.ensures)
+returns-in_default c = walk_stops c.requires.0 c.loop-w.invariant c.is_done.ensures c.loop-w-test.true c.in_default.ensures
 
 pub bounds-out-place : goal.bounds-out-place
 bounds-out-place c = arc_fits c.requires.0 c.loop-w.invariant c.is_done.ensures c.loop-w-test.true c.in-Some.ensures

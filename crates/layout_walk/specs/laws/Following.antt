@@ -13,10 +13,10 @@ use Rattle.graph.specs.HeldGraph.{graph_in, end_in}
 use Rattle.graph.specs.Layout.{is_done, fits}
 use Rattle.layout_steps.specs.Steps.{done_at, fits_in, found_as, ArcsHeld}
 use Rattle.layout_steps.specs.laws.Tests.{done_in, found_some, found_none}
-use Rattle.layout_walk.specs.Plan.{cells_for, laid, Ready}
-use Rattle.layout_walk.specs.laws.Walk.{Unfollowed, Stored, Walked}
+use Rattle.layout_walk.specs.Plan.{cells_for, Ready}
+use Rattle.layout_walk.specs.laws.Walk.{Unfollowed, Walked}
 use Rattle.layout_walk.specs.laws.Arcs.{load, arc_on, arc_room, arc_falls}
-use Rattle.layout_walk.specs.laws.Walking.{walked_arc, done_stored}
+use Rattle.layout_walk.specs.laws.Walking.{walked_arc}
 
 module _ {n k m : ℕ} {t : SheetTables} {cells : List ℕ} (ready : Ready n k m t cells) where
   -- the graph that the tables hold
@@ -49,8 +49,8 @@ module _ {n k m : ℕ} {t : SheetTables} {cells : List ℕ} (ready : Ready n k m
       same_test b is = done_in n k m t node w h.placed.node h.placed.set ∙ sym test ∙ is
 
       -- nothing is added
-      pub walk_ends : done ≡ true → Stored (laid G cells v w) at place out then
-      walk_ends is = done_stored G cells v w at out then node place h ready.finished (true_fact (same_test true is))
+      pub walk_ends : done ≡ true → Walked G cells v w at out then node place × T (is_done G node w)
+      walk_ends is = (h, true_fact (same_test true is))
 
       module _ (more : done ≡ false) where
         undone : T (not (is_done G node w))
@@ -79,5 +79,6 @@ module _ {n k m : ℕ} {t : SheetTables} {cells : List ℕ} (ready : Ready n k m
               (arc_falls G cells ready.finished node w place (length then) h.placed undone e fitting)
 
         -- no arc fits
-        pub walk_stops : None ≡ found_as (first (fits_in k m (arc_tables_of t) cells node w) m) → Unfollowed G cells node w
-        walk_stops found = record { undone = undone; no_arc = found_none (first (fits_in k m (arc_tables_of t) cells node w) m) found }
+        pub walk_stops : None ≡ found_as (first (fits_in k m (arc_tables_of t) cells node w) m)
+            → Walked G cells v w at out then node place × Unfollowed G cells node w
+        walk_stops found = (h, record { undone = undone; no_arc = found_none (first (fits_in k m (arc_tables_of t) cells node w) m) found })

@@ -1,6 +1,6 @@
 -- `layout::plan::follow` and `split` meet their contracts.
 -- Assumes nothing.
-use Rattle.layout_walk.specs.laws.Walking.{walked_stored, stuck_falls}
+use Rattle.layout_walk.specs.laws.Walking.{walked_stored, done_stored, stuck_falls}
 use Rattle.layout.specs.laws.Splitting.{first_placed, first_falls, others_placed, others_falls, both_stored}
 use Rattle.layout.proofs.plan.+follow_split.Goals as goal
 
@@ -8,6 +8,11 @@ pub follow-split-requires : goal.follow-split-requires
 follow-split-requires t c =
     let (walked, unfollowed) = c.in-Stuck.ensures in
     (stuck_falls _ _ _ _ _ _ _ _ _ walked t c.decreases, (c.requires.0, walked.placed, unfollowed))
+
+pub follow-returns-in-Done : goal.follow-returns-in-Done
+follow-returns-in-Done t c =
+    let (walked, done) = c.in-Done.ensures in
+    done_stored _ _ _ _ _ _ _ _ _ walked c.requires.0.finished done
 
 pub follow-returns-in-Stuck : goal.follow-returns-in-Stuck
 follow-returns-in-Stuck t c = walked_stored _ _ _ _ _ _ _ _ _ c.in-Stuck.ensures.0 _ _ c.split.ensures
