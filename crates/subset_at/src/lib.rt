@@ -63,8 +63,7 @@ pub fn at(position: u16) -> Subset
         before: position - range.first,
         chosen: 0,
     };
-    // Not a `for`: the choice counts its stations itself.
-    while 0 < choice.stations {
+    for passed in 0..MAX_TERMINALS {
         choice = choice.next();
     }
     Subset(choice.chosen)

@@ -21,7 +21,7 @@ pub fn size_range(k: u8, position: u16) -> SizeRange
     let mut size: u16 = 0;
     let mut first: u16 = 0;
     let mut count: u16 = 1;
-    // Not a `for`: the size is what is looked for.
+    // Not a `for`: each position is in a range, and a `for` over the sizes would need the same answer once more behind it.
     while count <= position - first {
         first += count;
         count = count * (stations - size) / (size + 1);
