@@ -17,5 +17,9 @@ pub fn copy_order(sets: &mut [u16])
     requires { length sets.old ≡ max_subsets }
     ensures { sets.new ≡ map in_order (numbers 0 max_subsets) }
 {
-    sets.copy_from_slice(&entries::ORDER);
+    // Not `copy_from_slice`: of so many bytes it calls `memcpy`, and the library for C calls only `memset` of the C library.
+    let table = entries::ORDER;
+    for position in 0..POSITIONS {
+        sets[position] = table[position];
+    }
 }
