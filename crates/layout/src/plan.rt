@@ -17,13 +17,13 @@ use limits::Cost;
 use subset::Subset;
 
 // The legs of site v with the set w are listed in `out` from the place `at` on; the place after them.
-// Legs are followed in a loop, so that the calls are only as deep as sets are split.
+// Legs are followed in a loop, so that the calls are only as deep as sets are split. The sheet is lent to them, so that none of them copies it.
 #[cycle(follow_split)]
-fn follow(sheet: CostedSheet, v: u16, w: Subset, out: &mut [u16], at: usize) -> usize
-    requires { ReadySheet sheet × Placed (costed_graph sheet) sheet.cells.now v w.0 at (length out.old) }
-    ensures { let s = sheet.entry in Stored (laid (costed_graph s) s.cells.now v w.0) at result out.old out.new }
+fn follow(sheet: &CostedSheet, v: u16, w: Subset, out: &mut [u16], at: usize) -> usize
+    requires { ReadySheet sheet.now × Placed (costed_graph sheet.now) sheet.now.cells.now v w.0 at (length out.old) }
+    ensures { let s = sheet.now in Stored (laid (costed_graph s) s.cells.now v w.0) at result out.old out.new }
 {
-    match walk(sheet, v, w, out, at) {
+    match walk(*sheet, v, w, out, at) {
         Stop::Done { place, .. } => place,
         Stop::Stuck { node, place } => split(sheet, node, w, out, place),
     }
@@ -31,12 +31,12 @@ fn follow(sheet: CostedSheet, v: u16, w: Subset, out: &mut [u16], at: usize) -> 
 
 // The same where no leg fits: "Y is laid first, then the rest".
 #[cycle(follow_split)]
-fn split(sheet: CostedSheet, v: u16, w: Subset, out: &mut [u16], at: usize) -> usize
-    requires { ReadySheet sheet × Placed (costed_graph sheet) sheet.cells.now v w.0 at (length out.old)
-        × Unfollowed (costed_graph sheet) sheet.cells.now v w.0 }
-    ensures { let s = sheet.entry in Stored (laid (costed_graph s) s.cells.now v w.0) at result out.old out.new }
+fn split(sheet: &CostedSheet, v: u16, w: Subset, out: &mut [u16], at: usize) -> usize
+    requires { ReadySheet sheet.now × Placed (costed_graph sheet.now) sheet.now.cells.now v w.0 at (length out.old)
+        × Unfollowed (costed_graph sheet.now) sheet.now.cells.now v w.0 }
+    ensures { let s = sheet.now in Stored (laid (costed_graph s) s.cells.now v w.0) at result out.old out.new }
 {
-    match splitting_part(sheet, v, w) {
+    match splitting_part(*sheet, v, w) {
         Some(y) => {
             let part = Subset(y);
             let rest = w.without(part);
@@ -69,7 +69,7 @@ pub fn lay_out(
         ((out.new ≡ over (laid (graph_in n k arcs t) cells.now root (full k)) out.old)
         × (result ≡ length (laid (graph_in n k arcs t) cells.now root (full k)))) }
 {
-    let sheet = CostedSheet {
+    let sheet = &CostedSheet {
         starts,
         ends,
         weights,

@@ -6,7 +6,7 @@ use Rattle.layout_walk.specs.laws.Arcs.{load}
 use Rattle.layout.proofs.plan.+follow_split.Given as goal
 
 abbrev pub decreases-follow : goal.decreases-follow
-decreases-follow l = load l.sheet.terminals l.sheet.cells.now l.v l.w.0 + load l.sheet.terminals l.sheet.cells.now l.v l.w.0 + 1
+decreases-follow l = load l.sheet.now.terminals l.sheet.now.cells.now l.v l.w.0 + load l.sheet.now.terminals l.sheet.now.cells.now l.v l.w.0 + 1
 
 abbrev pub decreases-split : goal.decreases-split
-decreases-split l = load l.sheet.terminals l.sheet.cells.now l.v l.w.0 + load l.sheet.terminals l.sheet.cells.now l.v l.w.0
+decreases-split l = load l.sheet.now.terminals l.sheet.now.cells.now l.v l.w.0 + load l.sheet.now.terminals l.sheet.now.cells.now l.v l.w.0
